@@ -1,0 +1,126 @@
+-- What each entry answers and leaves: one record an entry, over numbers and lists, which the entry's contract and its C
+-- twin's both cite. "A refusal is its number alone; every lent word keeps its value." The laws of `proofs/Pinned.antt`
+-- say that one input allows one answer and one content of each lent list. Assumes nothing.
+use mathlib.Core.Path.{_≡_}
+use mathlib.Core.Logic.{_≢_}
+use mathlib.Core.List.{List}
+use Prim.Native.Nat.{ℕ, _+_, _*_, _≤_, _<_}
+use lib.IntN.{ℤ}
+use lib.ListN.{length, getD, take, drop}
+use Rattle.rules.specs.declared.Setting.{Setting}
+use Rattle.rules.specs.Limits.{mark}
+use Rattle.rules.specs.Board.{cell}
+use Rattle.rules.specs.Measures.{chamfer-kind}
+use Rattle.rules.specs.Tie.{MapWord, MapSite, CostMapWord, CostMapSite}
+use Rattle.rules.specs.Changeover.{Changeover}
+use Rattle.rules.specs.Knob.{Good, pitch-word, radius-word, clear-byte}
+use Rattle.rules.specs.Lane.{Best, width}
+use Rattle.rules.specs.BenchFile.{bored-by, bores, Farthest}
+use Rattle.rules.specs.Refusals.{answer, scratch-words, picture-rows, cost-rows, lane-rows, clear-rows, opening-rows, changeover-rows, file-rows}
+
+-- the three buffers that a map call is lent
+pub record Buffers : Type 0 where
+  pub distances : List ℕ
+  pub sites : List ℕ
+  pub scratch : List ℕ
+
+abbrev pub buffers : List ℕ → List ℕ → List ℕ → Buffers
+buffers distances sites scratch = record { distances = distances; sites = sites; scratch = scratch }
+
+-- a list after a call is the list before it from place n on, and as long
+pub record Beyond (n : ℕ) (before after : List ℕ) : Type 0 where
+  pub as-long : length after ≡ length before
+  pub untouched : drop n after ≡ drop n before
+
+-- "On acceptance the first W·H distance and site words hold the map and the scratch words counted above are zero. Words
+-- beyond these minimum lengths are untouched.": `Word x y d` says that d is the map word of (x, y), `Named x y s` that s
+-- is its site word
+pub record MapLeft (w h : ℕ) (Word Named : ℕ → ℕ → ℕ → Type 0) (before after : Buffers) : Type 0 where
+  pub words : (x y : ℕ) → x < w → y < h → Word x y (getD (after .distances) (cell w x y) 0)
+  pub names : (x y : ℕ) → x < w → y < h → Named x y (getD (after .sites) (cell w x y) 0)
+  pub zeroed : (k : ℕ) → k < scratch-words w h → getD (after .scratch) k 0 ≡ 0
+  pub distances-beyond : Beyond (w * h) (before .distances) (after .distances)
+  pub sites-beyond : Beyond (w * h) (before .sites) (after .sites)
+  pub scratch-beyond : Beyond (scratch-words w h) (before .scratch) (after .scratch)
+
+-- the site word of a picture: by the tie rule, but "Kind 3 names no cell; its site words all hold the mark."
+pub record SiteWord (kind d1 d2 w h : ℕ) (picture : List ℕ) (x y site : ℕ) : Type 0 where
+  pub named : kind ≢ chamfer-kind → MapSite kind d1 d2 w h picture x y site
+  pub unnamed : kind ≡ chamfer-kind → site ≡ mark
+
+-- what an accepted map call leaves
+abbrev pub PictureLeft : ℕ → ℕ → ℕ → ℕ → ℕ → List ℕ → Buffers → Buffers → Type 0
+PictureLeft w h kind d1 d2 picture before after =
+    MapLeft w h (MapWord kind d1 d2 w h picture) (SiteWord kind d1 d2 w h picture) before after
+
+-- the picture entry
+pub record PictureCall (w h kind d1 d2 : ℕ) (picture : List ℕ) (before : Buffers) (number : ℕ) (after : Buffers) : Type 0 where
+  pub answered : number
+      ≡ answer (picture-rows w h kind d1 d2 picture (length (before .distances)) (length (before .sites)) (length (before .scratch)))
+  pub refused : number ≢ 0 → after ≡ before
+  pub done : number ≡ 0 → PictureLeft w h kind d1 d2 picture before after
+
+-- the cost entry
+pub record CostCall (w h kind : ℕ) (costs : List ℕ) (before : Buffers) (number : ℕ) (after : Buffers) : Type 0 where
+  pub answered : number
+      ≡ answer (cost-rows w h kind costs (length (before .distances)) (length (before .sites)) (length (before .scratch)))
+  pub refused : number ≢ 0 → after ≡ before
+  pub done : number ≡ 0 → MapLeft w h (CostMapWord kind w h costs) (CostMapSite kind w h costs) before after
+
+-- "The first L path words hold it, the rest up to W·H the mark, path words beyond stay, and the other buffers are as
+-- after a kind 0 map call.": `word` is demand 2's least distance of each cell, and no stored word
+pub record LaneLeft (w h : ℕ) (picture : List ℕ) (from to : ℕ) (before : Buffers) (path : List ℕ) (broad cells : ℕ) (after : Buffers) (path′ : List ℕ) : Type 0 where
+  pub word : ℕ → ℕ
+  pub word-least : (x y : ℕ) → x < w → y < h → MapWord 0 0 0 w h picture x y (word (cell w x y))
+  pub best : Best w h word from to (take cells path′)
+  pub width-is : broad ≡ width word (take cells path′)
+  pub cells-is : length (take cells path′) ≡ cells
+  pub marked : (k : ℕ) → cells ≤ k → k < w * h → getD path′ k 0 ≡ mark
+  pub path-beyond : Beyond (w * h) path path′
+  pub map-left : PictureLeft w h 0 0 0 picture before after
+
+-- the lane entry
+pub record LaneCall (w h : ℕ) (picture : List ℕ) (from to : ℕ) (before : Buffers) (path : List ℕ) (number broad cells : ℕ) (after : Buffers) (path′ : List ℕ) : Type 0 where
+  pub answered : number
+      ≡ answer (lane-rows w h picture from to (length (before .distances)) (length (before .sites)) (length (before .scratch)) (length path))
+  pub refused : number ≢ 0 → (after ≡ before) × (path′ ≡ path)
+  pub done : number ≡ 0 → LaneLeft w h picture from to before path broad cells after path′
+
+-- a setting opened to the whole numbers a and b
+pub record Opened (s : Setting) (a b : ℕ) : Type 0 where
+  pub pitch-good : Good (pitch-word s) a
+  pub radius-good : Good (radius-word s) b
+
+-- the opening entry
+pub record OpeningCall (s : Setting) (number a b : ℕ) : Type 0 where
+  pub answered : number ≡ answer (opening-rows s)
+  pub done : number ≡ 0 → Opened s a b
+
+-- "an equally long byte slice, whose every byte becomes 1 where d·a² ≥ b², else 0"
+pub record ClearLeft (s : Setting) (squares clear clear′ : List ℕ) : Type 0 where
+  pub a : ℕ
+  pub b : ℕ
+  pub opened : Opened s a b
+  pub bytes : (k : ℕ) → k < length squares → getD clear′ k 0 ≡ clear-byte a b (getD squares k 0)
+  pub as-long : length clear′ ≡ length clear
+
+-- the clear map entry
+pub record ClearCall (s : Setting) (squares clear : List ℕ) (number : ℕ) (clear′ : List ℕ) : Type 0 where
+  pub answered : number ≡ answer (clear-rows s (length squares) (length clear))
+  pub refused : number ≢ 0 → clear′ ≡ clear
+  pub done : number ≡ 0 → ClearLeft s squares clear clear′
+
+-- the changeover entry
+pub record ChangeoverCall (i u a b number : ℕ) (p : ℤ) : Type 0 where
+  pub answered : number ≡ answer (changeover-rows i u a b)
+  pub done : number ≡ 0 → Changeover i u a b p
+
+-- the three numbers of a bench file
+pub record BenchRead (bytes : List ℕ) (sites farthest number : ℕ) : Type 0 where
+  pub sites-is : sites ≡ bores (bored-by bytes)
+  pub farthest-is : Farthest (bored-by bytes) farthest number
+
+-- the bench file's function
+pub record BenchCall (bytes : List ℕ) (number sites farthest cell-number : ℕ) : Type 0 where
+  pub answered : number ≡ answer (file-rows bytes)
+  pub done : number ≡ 0 → BenchRead bytes sites farthest cell-number

@@ -1,0 +1,15 @@
+pub mod Limits
+pub mod Board
+pub mod Order
+pub mod Measures
+pub mod Table
+pub mod Tie
+pub mod Columns
+pub mod Changeover
+pub mod Knob
+pub mod Lane
+pub mod Refusals
+pub mod BenchFile
+pub mod Answers
+pub mod Calls
+pub mod Samples

@@ -1,0 +1,64 @@
+-- Every number of document 01 that is a limit, each in one place. `src/lib.rt` has a constant for each, and
+-- `limits` there is proved to hand out these very numbers. A proof names the limit and never its digits.
+-- Assumes nothing.
+use mathlib.Core.Path.{_≡_}
+use Prim.Native.Nat.{ℕ, _^_}
+use Rattle.rules.specs.declared.LimitTable.{LimitTable}
+
+-- "Width W and height H are each 1 to 512."
+abbrev pub side-limit : ℕ
+side-limit = 512
+
+-- "or the mark 4,294,967,295, meaning no feature": the greatest u32 word
+abbrev pub mark : ℕ
+mark = 4_294_967_295
+
+-- "a cost of 0 to 1,000,000"
+abbrev pub cost-limit : ℕ
+cost-limit = 1_000_000
+
+-- "We accept d1 from 1 to 255"
+abbrev pub weight-limit : ℕ
+weight-limit = 255
+
+-- "It is a public answer for columns 0 to 511 .."
+abbrev pub column-limit : ℕ
+column-limit = 511
+
+-- ".. and values a, b of 0 to 2,000,000."
+abbrev pub value-limit : ℕ
+value-limit = 2_000_000
+
+-- "a whole number from 1 to 4,096"
+abbrev pub knob-limit : ℕ
+knob-limit = 4_096
+
+-- "clear-map slices unequal, empty or over 262,144"
+abbrev pub clear-limit : ℕ
+clear-limit = 262_144
+
+-- "A small program for a 64 by 64 board"
+abbrev pub bench-side : ℕ
+bench-side = 64
+
+-- "or over 16,384 bytes"
+abbrev pub file-limit : ℕ
+file-limit = 16_384
+
+-- What the engine along a line takes as a value. No sentence of 01 has it: it is ours, far above every true word.
+abbrev pub line-limit : ℕ
+line-limit = 2 ^ 50
+
+-- the constants of `src/lib.rt`, each equal to its limit
+pub record Stated (l : LimitTable) : Type 0 where
+  pub side-is : l .side ≡ side-limit
+  pub mark-is : l .mark ≡ mark
+  pub cost-is : l .cost ≡ cost-limit
+  pub weight-is : l .weight ≡ weight-limit
+  pub column-is : l .column ≡ column-limit
+  pub value-is : l .value ≡ value-limit
+  pub knob-is : l .knob ≡ knob-limit
+  pub clear-is : l .clear ≡ clear-limit
+  pub bench-side-is : l .«bench_side» ≡ bench-side
+  pub file-is : l .file ≡ file-limit
+  pub line-is : l .line ≡ line-limit

@@ -1,0 +1,97 @@
+// The written rules of the board: the limits, and the types that settings and answers have. What the numbers mean is
+// in `specs/`, a file for each section of document 01.
+ghost use Rattle.rules.specs.Limits.{Stated};
+
+// "Width W and height H are each 1 to 512."
+pub const SIDE: u32 = 512;
+// "the mark 4,294,967,295, meaning no feature"
+pub const MARK: u32 = 4_294_967_295;
+// "a cost of 0 to 1,000,000"
+pub const COST: u32 = 1_000_000;
+// "d1 from 1 to 255"
+pub const WEIGHT: u32 = 255;
+// The changeover's "columns 0 to 511".
+pub const COLUMN: u32 = 511;
+// The changeover's "values a, b of 0 to 2,000,000".
+pub const VALUE: u32 = 2_000_000;
+// "a whole number from 1 to 4,096"
+pub const KNOB: u32 = 4_096;
+// "clear-map slices .. over 262,144"
+pub const CLEAR: usize = 262_144;
+// "a 64 by 64 board"
+pub const BENCH_SIDE: u32 = 64;
+// "over 16,384 bytes"
+pub const FILE: usize = 16_384;
+// The greatest value that the engine along a line takes: ours, far above every true word.
+pub const LINE: u64 = 1_125_899_906_842_624;
+
+// All of them in one value, which is proved to be what the rules say.
+pub struct LimitTable {
+    pub side: u32,
+    pub mark: u32,
+    pub cost: u32,
+    pub weight: u32,
+    pub column: u32,
+    pub value: u32,
+    pub knob: u32,
+    pub clear: usize,
+    pub bench_side: u32,
+    pub file: usize,
+    pub line: u64,
+}
+
+pub fn limits() -> LimitTable
+    ensures { λ r. ⌜ Stated r ⌝ }
+{
+    LimitTable {
+        side: SIDE,
+        mark: MARK,
+        cost: COST,
+        weight: WEIGHT,
+        column: COLUMN,
+        value: VALUE,
+        knob: KNOB,
+        clear: CLEAR,
+        bench_side: BENCH_SIDE,
+        file: FILE,
+        line: LINE,
+    }
+}
+
+// "A setting is two f32 values, pitch and radius, in millimetres."
+#[repr(C)]
+pub struct Setting {
+    pub pitch: f32,
+    pub radius: f32,
+}
+
+// One of the eight neighbours of document 003: row step, column step, and 1 for the weight d1 or 2 for d2.
+pub struct Step(pub i32, pub i32, pub u32);
+
+// The opening of a setting: the whole numbers of pitch and radius, or refusal 8.
+pub enum OpeningAnswer {
+    Whole { a: u32, b: u32 },
+    Refused,
+}
+
+// The changeover, or refusal 9.
+pub enum ChangeoverAnswer {
+    At(i32),
+    Refused,
+}
+
+// A lane's width and number of cells, or the refusal's number.
+pub enum LaneAnswer {
+    Found { width: u32, cells: u32 },
+    Refused(u32),
+}
+
+// The three numbers of a bench file, or the refusal's number.
+pub enum BenchAnswer {
+    Read {
+        sites: u32,
+        farthest: u32,
+        cell: u32,
+    },
+    Refused(u32),
+}

@@ -1,0 +1,4 @@
+pub mod Board
+pub mod Columns
+pub mod Changeover
+pub mod Knob

@@ -1,6 +1,6 @@
 -- "Changeover for i < u: the greatest whole p with (p−i)² + a ≤ (p−u)² + b." Whole numbers, negative ones too.
 -- Assumes nothing.
-use Prim.Native.Nat.{ℕ, suc, _+_, _-_, _*_, _/_, _≤_}
+use Prim.Native.Nat.{ℕ, _+_, _-_, _*_, _/_, _≤_}
 use lib.IntN.{ℤ, pos, negsuc, natAbs, _-ℤ_}
 use lib.Signed.{_≤ℤ_}
 

@@ -1,12 +1,11 @@
 -- "When the bench says no": each row of the table as a test, and for each entry its tests in its order. "The first row
 -- that holds, of those the call tests, is the answer", and 0 stands for none. A test is true where its row holds.
 -- Assumes nothing.
-use mathlib.Core.Path.{_≡_}
-use mathlib.Core.Bool.{Bool, true, false, not, _&&_, _||_, cond}
+use mathlib.Core.Bool.{Bool, false, not, _&&_, _||_, cond}
 use mathlib.Core.List.{List, [], _∷_}
-use Prim.Native.Nat.{ℕ, zero, suc, _+_, _*_, _%_, _^_, _≤_, _<_}
+use Prim.Native.Nat.{ℕ, zero, suc, _+_, _*_, _%_, _^_}
 use lib.Dec.{leb, ltb, eqb}
-use lib.ListN.{length, getD}
+use lib.ListN.{length}
 use Rattle.rules.specs.declared.Setting.{Setting}
 use Rattle.rules.specs.Limits.{side-limit, mark, cost-limit, weight-limit, column-limit, value-limit, knob-limit, clear-limit, file-limit}
 use Rattle.rules.specs.Measures.{chamfer-kind}

@@ -1,6 +1,5 @@
 -- "The scans use the four offsets of the forward scan and the four of the backward scan, as 003 prints them: each
 -- neighbour with its row step, column step and choice of weight." Assumes nothing.
-use mathlib.Core.Path.{_≡_}
 use mathlib.Core.List.{List, [], _∷_}
 use Prim.Native.Nat.{ℕ, zero, suc}
 use lib.IntN.{ℤ, pos, negsuc}

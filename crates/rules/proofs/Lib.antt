@@ -6,3 +6,6 @@ pub mod Changeover
 pub mod Knob
 pub mod BenchFile
 pub mod Refusals
+pub mod Lane
+pub mod LaneLabels
+pub mod LaneTest

@@ -9,3 +9,5 @@ pub mod Refusals
 pub mod Lane
 pub mod LaneLabels
 pub mod LaneTest
+pub mod Measures
+pub mod Table

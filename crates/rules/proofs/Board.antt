@@ -4,7 +4,7 @@
 -- one of three ways, and each way is an equation for i and one for u. Assumes nothing.
 use mathlib.Core.Path.{_≡_}
 use mathlib.Core.Logic.{by-cases}
-use Prim.Native.Nat.{ℕ, zero, suc, _+_, _*_, _≤_, _<_}
+use Prim.Native.Nat.{ℕ, zero, suc, _+_, _*_, _≤_, _<_, min}
 use native.Mathlib.Nat.{mul-comm, zero-lt-suc, mod-lt, div-add-mod', div-lt-iff-lt-mul}
 use native.Mathlib.Decide.{decLe, decLt}
 use native.Mathlib.Omega.{arith}
@@ -54,6 +54,11 @@ away-sym a b = omega arith
 pub away-up : {a b : ℕ} → a ≤ b → away a b + a ≡ b
 unfolding away
 away-up l = omega arith
+
+-- the difference and twice the lesser make the sum
+pub away-min : (a b : ℕ) → away a b + 2 * min a b ≡ a + b
+unfolding away
+away-min a b = omega arith
 
 -- numbers with no difference are equal
 pub away-zero : (a b : ℕ) → away a b ≡ 0 → a ≡ b

@@ -25,6 +25,7 @@ use lib.Arith.{digits-lt, digits-div, digits-mod}
 use Rattle.rules.specs.Board.{cell, column, row, away}
 use Rattle.rules.specs.Lane.{Neighbours, GoesOn, Lane, width, Best}
 use Rattle.rules.proofs.Order.{earlier-total}
+use Rattle.rules.proofs.Board.{away-self}
 
 -- neighbours are so both ways
 pub neighbours-sym : (w p q : ℕ) → Neighbours w p q → Neighbours w q p
@@ -102,11 +103,6 @@ unfolding away
 toward n a b l m e =
     by-cases (decLt a b) (λ k. (a + 1, omega arith, omega arith, omega arith))
     (λ k. (a - 1, omega arith, omega arith, omega arith))
-
--- a number is not away from itself
-away-self : (a : ℕ) → away a a ≡ 0
-unfolding away
-away-self a = omega arith
 
 module _ (w h i j : ℕ) (i-in : i < w) (j-in : j < h) where
   -- a walk over the board from the cell in column x and row y to the one in column i and row j

@@ -9,16 +9,15 @@
 --
 -- Assumes nothing.
 use mathlib.Core.Path.{_≡_, refl}
-use mathlib.Core.Logic.{by-cases}
 use mathlib.Core.Bool.{Bool, true, false, _&&_}
 use mathlib.Core.List.{List, [], _∷_}
-use Prim.Native.Nat.{ℕ, zero, suc, _+_, _-_, _*_, _≤_, _<_}
-use native.Mathlib.Decide.{ℕ-discrete}
-use native.Mathlib.Omega.{arith}
-use lib.Dec.{T, leb, eqb, leb→le, le→leb, eqb→eq, eqb-refl}
+use Prim.Native.Nat.{ℕ, suc, _+_, _-_, _*_, _≤_, _<_}
+use mir.Facts.{and-yes, yes-eqb}
+use lib.Dec.{T, leb, eqb, leb→le, le→leb, eqb→eq}
 use lib.ListN.{getD}
 use Rattle.rules.specs.Board.{column, row, away}
 use Rattle.rules.specs.Lane.{Neighbours, width, Best}
+use Rattle.rules.proofs.Order.{every, every-means}
 use Rattle.rules.proofs.LaneLabels.{Flooded, Next, Descends, best-by-labels}
 
 -- a condition with a test: where the test passes, the condition holds
@@ -34,16 +33,11 @@ never = record { passes = false; sound = λ t. absurd t }
 abbrev so : {A B : Type 0} → Test A → (A → B) → Test B
 so t f = record { passes = t .passes; sound = λ s. f (t .sound s) }
 
--- where the test of two passes, each passes
-pub both-sound : (a b : Bool) → T (a && b) → T a × T b
-both-sound true b t = (tt, t)
-both-sound false b t = absurd t
-
 -- two conditions hold
 abbrev both : {A B : Type 0} → Test A → Test B → Test (A × B)
 both s t = record {
   passes = s .passes && t .passes;
-  sound = λ u. let r = both-sound (s .passes) (t .passes) u in (s .sound (r .0), t .sound (r .1));
+  sound = λ u. let r = and-yes (s .passes) (t .passes) u in (s .sound (r .0), t .sound (r .1));
 }
 
 -- where the first test passes, the second does
@@ -63,23 +57,11 @@ given a known t = record {
   sound = λ s x. t .sound (implies-sound a (t .passes) s (known x));
 }
 
--- all numbers below n pass
-abbrev each : ℕ → (ℕ → Bool) → Bool
-each zero p = true
-each (suc n) p = p n && each n p
-
--- where all numbers below n pass, each of them does
-pub each-sound : (n : ℕ) (p : ℕ → Bool) → T (each n p) → (k : ℕ) → k < n → T (p k)
-each-sound zero p t k l = absurd (omega arith)
-each-sound (suc n) p t k l =
-    let (now, rest) = both-sound (p n) (each n p) t in
-    by-cases (ℕ-discrete k n) (λ e. rw e now) (λ e. each-sound n p rest k (omega arith))
-
 -- the condition holds of each number below n
 abbrev below : {P : ℕ → Type 0} (n : ℕ) → ((k : ℕ) → Test (P k)) → Test ((k : ℕ) → k < n → P k)
 below n t = record {
-  passes = each n (λ k. t k .passes);
-  sound = λ s k l. t k .sound (each-sound n (λ k. t k .passes) s k l);
+  passes = every n (λ k. t k .passes);
+  sound = λ s k l. t k .sound (every-means n (λ k. t k .passes) s k l);
 }
 
 -- one number is at most another
@@ -94,13 +76,9 @@ if-at-most a b t = given (leb a b) (le→leb a b) t
 abbrev same : (a b : ℕ) → Test (a ≡ b)
 same a b = record { passes = eqb a b; sound = eqb→eq a b }
 
--- numbers that are the same pass the test
-pub same-passes : (a b : ℕ) → a ≡ b → T (eqb a b)
-same-passes a b e = rw e (eqb-refl b)
-
 -- a condition holds if two numbers are the same
 abbrev if-same : {B : Type 0} (a b : ℕ) → Test B → Test (a ≡ b → B)
-if-same a b t = given (eqb a b) (same-passes a b) t
+if-same a b t = given (eqb a b) (λ e. yes-eqb e) t
 
 -- how many steps two cells are apart
 abbrev steps : ℕ → ℕ → ℕ → ℕ

@@ -11,3 +11,5 @@ pub mod LaneLabels
 pub mod LaneTest
 pub mod Measures
 pub mod Table
+pub mod Samples
+pub mod Pinned

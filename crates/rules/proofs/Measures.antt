@@ -8,30 +8,13 @@
 -- u. Assumes nothing.
 use mathlib.Core.Path.{_≡_}
 use mathlib.Core.Logic.{by-cases}
-use Prim.Native.Nat.{ℕ, zero, suc, _+_, _-_, _*_, _≤_, _<_, min, max}
+use Prim.Native.Nat.{ℕ, zero, suc, _+_, _-_, _*_, _≤_, _<_, max}
 use native.Mathlib.Nat.{mul-le-mul, mul-le-mul-right}
 use native.Mathlib.Decide.{decLe}
 use native.Mathlib.Omega.{arith}
 use Rattle.rules.specs.Board.{away}
+use Rattle.rules.proofs.Board.{away-min, away-square}
 use Rattle.rules.specs.Measures.{measure, HoldsAt, Lawful, Additive}
-
--- a difference of columns and twice the lesser column make the sum of both
-apart : (x i : ℕ) → away x i + 2 * min x i ≡ x + i
-unfolding away
-apart x i = omega arith
-
--- the square of a difference d, where x is the lesser column
-square-up : (d x i : ℕ) → d + x ≡ i → d * d + 2 * (x * i) ≡ x * x + i * i
-square-up d x i e = rw (← e) (omega arith)
-
--- the square of a difference, whichever column is the lesser
-square : (x i : ℕ) → away x i * away x i + 2 * (x * i) ≡ x * x + i * i
-square x i =
-    let e : away x i + 2 * min x i ≡ x + i = apart x i in
-    by-cases
-    (decLe x i)
-    (λ l. square-up (away x i) x i (omega arith))
-    (λ g. omega (arith, square-up (away x i) i x (omega arith)))
 
 -- of two columns d apart, the products that the squares leave are no larger at x′
 crossed : (d i u x x′ : ℕ) → d + i ≡ u → x′ ≤ x → x′ * u + x * i ≤ x′ * i + x * u
@@ -39,11 +22,11 @@ crossed d i u x x′ e h = rw (← e) (omega (arith, mul-le-mul-right d h))
 
 -- where x is no farther from i than from u, neither is x′, and x′ is at least as far from u as x is
 nearer : (i u x x′ : ℕ) → i < u → x′ ≤ x → away x i ≤ away x u → (away x′ i ≤ away x′ u) × (away x u ≤ away x′ u)
-nearer i u x x′ l h n = omega (arith, apart x i, apart x u, apart x′ i, apart x′ u)
+nearer i u x x′ l h n = omega (arith, away-min x i, away-min x u, away-min x′ i, away-min x′ u)
 
 -- x′ is no farther from i than x is, or than it is from u
 bounded : (i u x x′ : ℕ) → i < u → x′ ≤ x → away x′ i ≤ max (away x′ u) (away x i)
-bounded i u x x′ l h = omega (arith, apart x i, apart x′ i, apart x′ u)
+bounded i u x x′ l h = omega (arith, away-min x i, away-min x′ i, away-min x′ u)
 
 -- where column i holds at x, it holds at x′
 holds-on : (kind i u a b x x′ : ℕ)
@@ -53,8 +36,8 @@ holds-on : (kind i u a b x x′ : ℕ)
     → HoldsAt (measure kind) i u a b x′
 holds-on zero i u a b x x′ l h t =
     let e : u - i + i ≡ u = omega arith in
-    omega (arith, square x i, square x u, square x′ i, square x′ u, crossed (u - i) i u x x′ e h)
-holds-on (suc zero) i u a b x x′ l h t = omega (arith, apart x i, apart x u, apart x′ i, apart x′ u)
+    omega (arith, away-square x i, away-square x u, away-square x′ i, away-square x′ u, crossed (u - i) i u x x′ e h)
+holds-on (suc zero) i u a b x x′ l h t = omega (arith, away-min x i, away-min x u, away-min x′ i, away-min x′ u)
 holds-on (suc (suc k)) i u a b x x′ l h t =
     by-cases
     (decLe (away x i) (away x u))

@@ -15,6 +15,7 @@ use native.Mathlib.Omega.{arith}
 use lib.ListN.{length, getD}
 use lib.IntN.{ℤ, pos, negsuc, natAbs, _+ℤ_, +ℤ-idr, -ℤ-one, -ℤ-+ℤ-cancel}
 use Rattle.rules.specs.Board.{away}
+use Rattle.rules.proofs.Board.{away-self, away-zero}
 use Rattle.rules.specs.Measures.{chamfer, Weights}
 use Rattle.rules.specs.Table.{step, back, none, on, steps, weight}
 use Rattle.rules.specs.declared.Step.{Step}
@@ -133,11 +134,8 @@ never-too-small {d1} {d2} {x} {y} {x′} {y′} {s} i j c m l =
 
 -- from a cell to itself the closed form is 0
 at-home : (d1 d2 i j : ℕ) → chamfer d1 d2 (away i i) (away j j) ≡ 0
-unfolding away chamfer
-at-home d1 d2 i j =
-    let a : away i i ≡ 0 = omega arith in
-    let b : away j j ≡ 0 = omega arith in
-    rw (a, b) (omega arith)
+unfolding chamfer
+at-home d1 d2 i j = rw (away-self i, away-self j) (omega arith)
 
 -- no walk weighs less than the closed form
 pub least : {w h d1 d2 i j x y t : ℕ}
@@ -209,11 +207,6 @@ last-step {d1} {d2} {i} {j} a b e x-in y-in before =
     (a .nearer .0, b .nearer .0, g, ← (weighs d1 d2 m))
     (further before m (record { across = a .moved; down = b .moved }) x-in y-in)
 
--- no difference, one place
-home : (x i : ℕ) → away x i ≡ 0 → x ≡ i
-unfolding away
-home x i e = omega arith
-
 module _ (w h d1 d2 i j : ℕ) (i-in : i < w) (j-in : j < h) where
   -- a walk that weighs the closed form, by the larger of the two differences
   reach : (k x y : ℕ)
@@ -221,7 +214,7 @@ module _ (w h d1 d2 i j : ℕ) (i-in : i < w) (j-in : j < h) where
       → y < h
       → max (away x i) (away y j) ≡ k
       → Walk w h d1 d2 i j x y (chamfer d1 d2 (away x i) (away y j))
-  reach zero x y _ _ e = rw (home x i (omega arith), home y j (omega arith), at-home d1 d2 i j) start
+  reach zero x y _ _ e = rw (away-zero x i (omega arith), away-zero y j (omega arith), at-home d1 d2 i j) start
   reach (suc k) x y x-in y-in e =
       let a = last i x k (omega arith) in
       let b = last j y k (omega arith) in

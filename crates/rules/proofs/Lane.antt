@@ -236,8 +236,8 @@ best-unique {w} {h} {word} {from} {to} {cells} {cells′} b b′ =
     let few : length cells ≡ length cells′ = omega (arith, b .fewest cells′ l′ (sym wide), b′ .fewest cells l wide) in
     elim (earlier-total cells cells′ few) [
       | inl t ↦ t
-      | inr (inl t) ↦ absurd (b′ .first cells l wide few t)
-      | inr (inr t) ↦ absurd (b .first cells′ l′ (sym wide) (sym few) t)
+      | inr (inl t) ↦ absurd (b′ .first cells l wide (omega arith) t)
+      | inr (inr t) ↦ absurd (b .first cells′ l′ (sym wide) (omega arith) t)
     ]
 
 -- there is at most one best lane, and one width of it, by words that agree on the board

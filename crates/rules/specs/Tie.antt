@@ -26,9 +26,9 @@ pub record Site (w h : ℕ) (Feature : ℕ → ℕ → Type 0) (word : ℕ → �
   pub row-in : j < h
   pub feature : Feature i j
   pub least : (i′ j′ : ℕ) → i′ < w → j′ < h → Feature i′ j′ → word i j ≤ word i′ j′
-  pub least-column : (i′ j′ : ℕ) → i′ < w → j′ < h → Feature i′ j′ → word i′ j′ ≡ word i j → i ≤ i′
-  pub least-dy : (j′ : ℕ) → j′ < h → Feature i j′ → word i j′ ≡ word i j → dy j ≤ dy j′
-  pub least-row : (j′ : ℕ) → j′ < h → Feature i j′ → word i j′ ≡ word i j → dy j′ ≡ dy j → j ≤ j′
+  pub least-column : (i′ j′ : ℕ) → i′ < w → j′ < h → Feature i′ j′ → word i′ j′ ≡ word i j → i ≤ i′  -- the least column
+  pub least-dy : (j′ : ℕ) → j′ < h → Feature i j′ → word i j′ ≡ word i j → dy j ≤ dy j′  -- in it the least dy
+  pub least-row : (j′ : ℕ) → j′ < h → Feature i j′ → word i j′ ≡ word i j → dy j′ ≡ dy j → j ≤ j′  -- the least row
 
 -- "For costs: least column, then least row."
 pub record CostSite (w h : ℕ) (Feature : ℕ → ℕ → Type 0) (word : ℕ → ℕ → ℕ) (i j : ℕ) : Type 0 where

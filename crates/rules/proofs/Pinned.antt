@@ -33,9 +33,9 @@ use Rattle.rules.specs.Board.{cell}
 use Rattle.rules.specs.Measures.{chamfer-kind}
 use Rattle.rules.specs.Lane.{Lane}
 use Rattle.rules.specs.Limits.{bench-side}
-use Rattle.rules.specs.BenchFile.{bored-by, bores}
+use Rattle.rules.specs.BenchFile.{bored-by, bores, text}
 use Rattle.rules.specs.Calls.{Buffers, Beyond, MapLeft, SiteWord, PictureLeft, LaneLeft, ClearLeft, BenchRead}
-use Rattle.rules.specs.Calls.{PictureCall, CostCall, LaneCall, OpeningCall, ClearCall, ChangeoverCall, BenchCall}
+use Rattle.rules.specs.Calls.{PictureCall, CostCall, LaneCall, OpeningCall, ClearCall, ChangeoverCall, BenchCall, BenchPrints}
 use Rattle.rules.specs.Answers.{opening-number, opening-a, opening-b, changeover-number, changeover-at}
 use Rattle.rules.specs.Answers.{lane-number, lane-width, lane-cells}
 use Rattle.rules.specs.Answers.{bench-number, bench-sites, bench-farthest, bench-cell}
@@ -264,3 +264,23 @@ bench-answer-pinned (Read s f c) (Read s′ f′ c′) p q = let (d, e, g) = ben
 bench-answer-pinned (Read s f c) (NotRead n) p q = absurd (sites-not-zero (q .done (sym (bench-pinned p q .0))))
 bench-answer-pinned (NotRead n) (Read s f c) p q = absurd (sites-not-zero (p .done (bench-pinned p q .0)))
 bench-answer-pinned (NotRead n) (NotRead n′) p q = ap NotRead (bench-pinned p q .0)
+
+-- a refusal's line is its number's alone
+refused-line : (n s s′ f f′ c c′ : ℕ) → n ≢ 0 → text n s f c ≡ text n s′ f′ c′
+refused-line zero s s′ f f′ c c′ some = absurd (some refl)
+refused-line (suc n) s s′ f f′ c c′ some = refl
+
+-- one file is printed as one text
+pub bench-text-pinned : {bytes output output′ : List ℕ} → BenchPrints bytes output → BenchPrints bytes output′
+    → output ≡ output′
+bench-text-pinned p q =
+    let (n, rest) = bench-pinned (p .call) (q .call) in
+    by-cases (ℕ-discrete (p .number) 0)
+    (λ z.
+    let (a, b, c) = rest z in
+    let same : text (p .number) (p .sites) (p .farthest) (p .cell-number)
+    ≡ text (q .number) (q .sites) (q .farthest) (q .cell-number) =
+    rw (n, a, b, c) in
+    p .output-is ∙ same ∙ sym (q .output-is))
+    (λ some. p .output-is ∙ refused-line (p .number) _ (q .sites) _ (q .farthest) _ (q .cell-number) some
+    ∙ ap (λ k. text k (q .sites) (q .farthest) (q .cell-number)) n ∙ sym (q .output-is))

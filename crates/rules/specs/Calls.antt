@@ -15,7 +15,7 @@ use Rattle.rules.specs.Tie.{MapWord, MapSite, CostMapWord, CostMapSite}
 use Rattle.rules.specs.Changeover.{Changeover}
 use Rattle.rules.specs.Knob.{Good, pitch-word, radius-word, clear-byte}
 use Rattle.rules.specs.Lane.{Best, width}
-use Rattle.rules.specs.BenchFile.{bored-by, bores, Farthest}
+use Rattle.rules.specs.BenchFile.{bored-by, bores, Farthest, text}
 use Rattle.rules.specs.Refusals.{answer, scratch-words, picture-rows, cost-rows, lane-rows, clear-rows, opening-rows, changeover-rows, file-rows}
 
 -- the three buffers that a map call is lent
@@ -124,3 +124,12 @@ pub record BenchRead (bytes : List ℕ) (sites farthest number : ℕ) : Type 0 w
 pub record BenchCall (bytes : List ℕ) (number sites farthest cell-number : ℕ) : Type 0 where
   pub answered : number ≡ answer (file-rows bytes)
   pub done : number ≡ 0 → BenchRead bytes sites farthest cell-number
+
+-- what the bench program prints for a file: the text of the answer
+pub record BenchPrints (bytes output : List ℕ) : Type 0 where
+  pub number : ℕ
+  pub sites : ℕ
+  pub farthest : ℕ
+  pub cell-number : ℕ
+  pub call : BenchCall bytes number sites farthest cell-number
+  pub output-is : output ≡ text number sites farthest cell-number

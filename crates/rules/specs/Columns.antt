@@ -7,8 +7,8 @@ use Prim.Native.Nat.{ℕ, _≤_, _<_}
 use Rattle.rules.specs.Limits.{mark}
 use Rattle.rules.specs.Board.{cell, away}
 
--- "G(x, y) is the least dy to a bore in column x": j is the row of the column's nearest feature, the upper one on a
--- tie
+-- "G(x, y) is the least dy to a bore in column x": j is the row where it is attained, the upper one on a tie. Over
+-- `rank` in place of dy the same serves costs.
 pub record Nearest (h : ℕ) (Feature : ℕ → Type 0) (rank : ℕ → ℕ) (j : ℕ) : Type 0 where
   pub row-in : j < h
   pub feature : Feature j

@@ -1,5 +1,5 @@
--- Every number of document 01 that is a limit, each in one place. `src/lib.rt` has a constant for each, and
--- `limits` there is proved to hand out these very numbers. A proof names the limit and never its digits.
+-- The limits of document 01, each in one place. `src/lib.rt` has a constant for each, and `limits` there is proved to
+-- hand out these very numbers. A proof names the limit and never its digits.
 -- Assumes nothing.
 use mathlib.Core.Path.{_≡_}
 use Prim.Native.Nat.{ℕ, _^_}

@@ -39,7 +39,7 @@ measure zero = record { lift = λ dy. dy * dy; combine = λ dx v. dx * dx + v }
 measure (suc zero) = record { lift = λ dy. dy; combine = λ dx v. dx + v }
 measure (suc (suc k)) = record { lift = λ dy. dy; combine = λ dx v. max dx v }
 
--- "for columns i < u": the curve of column i, which holds the value a, is at most that of u, which holds b, at x
+-- For columns i < u: the curve of column i, which holds the value a, is at most that of u, which holds b, at the place x.
 abbrev pub HoldsAt : Measure → ℕ → ℕ → ℕ → ℕ → ℕ → Type 0
 HoldsAt m i u a b x = m .combine (away x i) a ≤ m .combine (away x u) b
 

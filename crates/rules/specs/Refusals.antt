@@ -81,7 +81,8 @@ all-marked costs = not (any (λ c. not (eqb c mark)) costs)
 unfoldable pub bad-ends : ℕ → ℕ → ℕ → ℕ → Bool
 bad-ends w h from to = leb (w * h) from || leb (w * h) to
 
--- 8: "pitch or radius bad". A word is good when some k from 1 to 4,096, with 2^m the greatest power not above it, has it.
+-- 8: "pitch or radius bad". A word is good when it is the word of the good value for some whole number from 1 to 4,096,
+-- here k + 1 for a k below 4,096, with 2^m the greatest power of two not above that number.
 unfoldable pub good-value : ℕ → Bool
 good-value word =
     some knob-limit (λ k. some 13 (λ m. leb (2 ^ m) (k + 1) && ltb (k + 1) (2 ^ (m + 1)) && eqb word (good-word (k + 1) m)))

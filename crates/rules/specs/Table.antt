@@ -1,6 +1,6 @@
 -- "The scans use the four offsets of the forward scan and the four of the backward scan, as 003 prints them: each
 -- neighbour with its row step, column step and choice of weight." Assumes nothing.
-use mathlib.Core.List.{List, [], _∷_}
+use mathlib.Core.List.{List, [], _∷_, _++_}
 use Prim.Native.Nat.{ℕ, zero, suc}
 use lib.IntN.{ℤ, pos, negsuc}
 use Rattle.rules.specs.declared.Step.{Step}
@@ -19,21 +19,19 @@ none = pos 0
 abbrev pub on : ℤ
 on = pos 1
 
--- 003's b(i−1,j−1)+d2, b(i−1,j)+d1, b(i−1,j+1)+d2, b(i,j−1)+d1, then b(i,j+1)+d1, b(i+1,j−1)+d2, b(i+1,j)+d1,
--- b(i+1,j+1)+d2
-abbrev pub steps : List Step
-steps =
-    step back back 2
-    ∷ step back none 1
-    ∷ step back on 2
-    ∷ step none back 1
-    ∷ step none on 1
-    ∷ step on back 2
-    ∷ step on none 1
-    ∷ step on on 2
-    ∷ []
+-- the forward scan: b(i−1,j−1)+d2, b(i−1,j)+d1, b(i−1,j+1)+d2, b(i,j−1)+d1
+abbrev pub forward : List Step
+forward = step back back 2 ∷ step back none 1 ∷ step back on 2 ∷ step none back 1 ∷ []
 
--- the weight that a choice names
+-- the backward scan: b(i,j+1)+d1, b(i+1,j−1)+d2, b(i+1,j)+d1, b(i+1,j+1)+d2
+abbrev pub backward : List Step
+backward = step none on 1 ∷ step on back 2 ∷ step on none 1 ∷ step on on 2 ∷ []
+
+-- the eight, in that order
+abbrev pub steps : List Step
+steps = forward ++ backward
+
+-- the weight that a choice names; there are no other choices
 abbrev pub weight : ℕ → ℕ → ℕ → ℕ
 weight d1 d2 zero = 0
 weight d1 d2 (suc zero) = d1

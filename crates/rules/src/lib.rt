@@ -1,5 +1,5 @@
 // The written rules of the board: the limits, and the types that settings and answers have. What the numbers mean is
-// in `specs/`, a file for each section of document 01.
+// in `specs/`, each definition under the sentence of document 01 that it renders.
 ghost use Rattle.rules.specs.Limits.{Stated};
 
 // "Width W and height H are each 1 to 512."

@@ -8,7 +8,15 @@ use mathlib.Core.Logic.{_↔_, by-cases}
 use mathlib.Core.Bool.{not}
 use Prim.Native.Nat.{ℕ, zero, suc, _+_, _-_, _*_, _/_, _≤_, _<_}
 use native.Mathlib.Decide.{decLt}
-use native.Mathlib.Nat.{le-div-iff-mul-le, div-lt-iff-lt-mul}
+use native.Mathlib.Nat.{
+  le-div-iff-mul-le,
+  div-lt-iff-lt-mul,
+  div-mul-le-self,
+  lt-div-mul-add,
+  mul-le-mul-right,
+  lt-of-not-le,
+  le-of-suc-le-suc,
+}
 use native.Mathlib.Omega.{arith}
 use lib.Dec.{leb→le, le→leb}
 use lib.IntN.{ℤ, pos, negsuc, subℕ, negℤ, sucℤ, _+ℤ_, _-ℤ_, _*ℤ_, +ℤ-one}
@@ -147,3 +155,24 @@ changeover-unique {p} {q} c e = ≤ℤ-antisymm (e .greatest p (c .holds)) (c .g
 pub changeover-is-floor : {i u a b : ℕ} {p : ℤ} → i < u → Changeover i u a b p
     → p ≡ floor (numerator i u a b) (divisor i u)
 changeover-is-floor {i} {u} {a} {b} h c = changeover-unique c (changeover-floor i u a b h)
+
+-- The floor without a sign: with k divisors added the number is not below zero, and k is taken away from the quotient.
+pub floor-raised : (top low k d : ℕ) → 0 < d → low ≤ top + k * d
+    → pos ((top + k * d - low) / d) -ℤ pos k ≡ floor (pos top -ℤ pos low) d
+floor-raised top low k d some enough =
+    let n = pos top -ℤ pos low in
+    let p = (top + k * d - low) / d in
+    let z = pos p -ℤ pos k in
+    let q = floor n d in
+    let raised = less (pos top) low in
+    let shifted = less (pos p) k in
+    let scaled : (up z + k) * d ≡ (down z + p) * d = ap (λ m. m * d) (omega arith) in
+    ≤ℤ-antisymm
+    (floor-iff n z some .1
+    (order (z *ℤ pos d) n .1 (omega (arith, times z d, div-mul-le-self (top + k * d - low) d))))
+    (order q z .1
+    (le-of-suc-le-suc
+    (lt-of-not-le
+    (λ (l : up z + down q < up q + down z).
+    let more = mul-le-mul-right d l in
+    omega (arith, more, times q d, order (q *ℤ pos d) n .0 (floor-low n some), lt-div-mul-add {a = top + k * d - low} some)))))

@@ -120,6 +120,11 @@ row-by-row rows d =
       );
     }
 
+-- a test that cannot fail holds
+pub holds-unless : (b : Bool) → (b ≡ false → ⊥) → b ≡ true
+holds-unless true f = refl
+holds-unless false f = absurd (f refl)
+
 -- of a test "one or the other" that is false, the one is false
 pub or-first : (a b : Bool) → (a || b) ≡ false → a ≡ false
 or-first true b e = e

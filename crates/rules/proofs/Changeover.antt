@@ -3,20 +3,13 @@
 -- on both sides of (p−i)² + a ≤ (p−u)² + b, and p² falls out: what is left is p · 2(u−i) ≤ u² − i² + b − a. A whole p
 -- has that exactly when it is not above the floor of the quotient. So the floor has it and is the greatest that does,
 -- and two greatest ones are equal. Assumes nothing.
-use mathlib.Core.Path.{_≡_, refl, ap}
+use mathlib.Core.Path.{_≡_, refl, ap, _∙_}
 use mathlib.Core.Logic.{_↔_, by-cases}
 use mathlib.Core.Bool.{not}
 use Prim.Native.Nat.{ℕ, zero, suc, _+_, _-_, _*_, _/_, _≤_, _<_}
 use native.Mathlib.Decide.{decLt}
-use native.Mathlib.Nat.{
-  le-div-iff-mul-le,
-  div-lt-iff-lt-mul,
-  div-mul-le-self,
-  lt-div-mul-add,
-  mul-le-mul-right,
-  lt-of-not-le,
-  le-of-suc-le-suc,
-}
+use native.Mathlib.Nat.{le-div-iff-mul-le, div-lt-iff-lt-mul, add-div-right, suc-sub-suc, sub-zero}
+use native.Mathlib.Numerals.{add-one}
 use native.Mathlib.Omega.{arith}
 use lib.Dec.{leb→le, le→leb}
 use lib.IntN.{ℤ, pos, negsuc, subℕ, negℤ, sucℤ, _+ℤ_, _-ℤ_, _*ℤ_, +ℤ-one}
@@ -156,23 +149,16 @@ pub changeover-is-floor : {i u a b : ℕ} {p : ℤ} → i < u → Changeover i u
     → p ≡ floor (numerator i u a b) (divisor i u)
 changeover-is-floor {i} {u} {a} {b} h c = changeover-unique c (changeover-floor i u a b h)
 
--- The floor without a sign: with k divisors added the number is not below zero, and k is taken away from the quotient.
-pub floor-raised : (top low k d : ℕ) → 0 < d → low ≤ top + k * d
-    → pos ((top + k * d - low) / d) -ℤ pos k ≡ floor (pos top -ℤ pos low) d
-floor-raised top low k d some enough =
-    let n = pos top -ℤ pos low in
-    let p = (top + k * d - low) / d in
-    let z = pos p -ℤ pos k in
-    let q = floor n d in
-    let raised = less (pos top) low in
-    let shifted = less (pos p) k in
-    let scaled : (up z + k) * d ≡ (down z + p) * d = ap (λ m. m * d) (omega arith) in
-    ≤ℤ-antisymm
-    (floor-iff n z some .1
-    (order (z *ℤ pos d) n .1 (omega (arith, times z d, div-mul-le-self (top + k * d - low) d))))
-    (order q z .1
-    (le-of-suc-le-suc
-    (lt-of-not-le
-    (λ (l : up z + down q < up q + down z).
-    let more = mul-le-mul-right d l in
-    omega (arith, more, times q d, order (q *ℤ pos d) n .0 (floor-low n some), lt-div-mul-add {a = top + k * d - low} some)))))
+-- a number that is not below zero is rounded down
+pub floor-up : (top low d : ℕ) → low ≤ top → pos ((top - low) / d) ≡ floor (pos top -ℤ pos low) d
+floor-up top zero d h = ap (λ n. pos (n / d)) (omega arith)
+floor-up top (suc low) d h = rw (le-ltb top (suc low) h)
+
+-- and one below zero away from zero
+pub floor-down : (top low d : ℕ) → 0 < d → top < low → pos 0 -ℤ pos ((low - top + d - 1) / d) ≡ floor (pos top -ℤ pos low) d
+floor-down top zero d some h = absurd (omega arith)
+floor-down top (suc low) d some h =
+    let e : (suc low - top + d - 1) / d ≡ suc ((low - top) / d) =
+    ap (λ n. n / d) (omega arith) ∙ add-div-right (low - top) some ∙ add-one ((low - top) / d) in
+    let q = (low - top) / d in
+    rw (lt-ltb top (suc low) h, e, lt-ltb 0 (suc q) (omega arith), suc-sub-suc low top, suc-sub-suc q 0, sub-zero q)

@@ -46,9 +46,9 @@ holds-on (suc (suc k)) i u a b x x′ l h t =
 
 -- kinds 0, 1 and 2 are lawful measures
 pub lawful : (kind : ℕ) → kind < 3 → Lawful (measure kind)
-lawful zero _ = record { rises = λ dy dy′ h. mul-le-mul h h; keeps = omega arith; stretch = holds-on 0 }
-lawful (suc zero) _ = record { rises = omega arith; keeps = omega arith; stretch = holds-on 1 }
-lawful (suc (suc k)) _ = record { rises = omega arith; keeps = omega arith; stretch = holds-on 2 }
+lawful zero _ = record { rises = λ dy dy′ h. mul-le-mul h h; keeps = omega arith; stands = omega arith; stretch = holds-on 0 }
+lawful (suc zero) _ = record { rises = omega arith; keeps = omega arith; stands = omega arith; stretch = holds-on 1 }
+lawful (suc (suc k)) _ = record { rises = omega arith; keeps = omega arith; stands = omega arith; stretch = holds-on 2 }
 
 -- in kinds 0 and 1 what is added to a column's value is added to the whole
 pub additive : (kind : ℕ) → kind < 2 → Additive (measure kind)

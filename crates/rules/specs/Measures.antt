@@ -43,11 +43,12 @@ measure (suc (suc k)) = record { lift = λ dy. dy; combine = λ dx v. max dx v }
 abbrev pub HoldsAt : Measure → ℕ → ℕ → ℕ → ℕ → ℕ → Type 0
 HoldsAt m i u a b x = m .combine (away x i) a ≤ m .combine (away x u) b
 
--- What a measure has to keep. More dy never lifts less; a lesser value never combines to more; and for columns i < u
--- the places where i holds are an initial stretch.
+-- What a measure has to keep. More dy never lifts less; a lesser value never combines to more, and none to less than
+-- itself; and for columns i < u the places where i holds are an initial stretch.
 pub record Lawful (m : Measure) : Type 0 where
   pub rises : (dy dy′ : ℕ) → dy ≤ dy′ → m .lift dy ≤ m .lift dy′
   pub keeps : (dx v v′ : ℕ) → v ≤ v′ → m .combine dx v ≤ m .combine dx v′
+  pub stands : (dx v : ℕ) → v ≤ m .combine dx v
   pub stretch : (i u a b x x′ : ℕ) → i < u → x′ ≤ x → HoldsAt m i u a b x → HoldsAt m i u a b x′
 
 -- What costs ask besides: what is added to a column's value is added to the whole.

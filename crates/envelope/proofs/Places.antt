@@ -4,7 +4,7 @@
 use mathlib.Core.Path.{_≡_, refl, ap, _∙_}
 use mathlib.Core.Logic.{_↔_, _⊎_, inl, inr}
 use mathlib.Core.List.{List}
-use Prim.Native.Nat.{ℕ, _+_, _-_, _*_, _/_, _≤_, _<_, min, max}
+use Prim.Native.Nat.{ℕ, zero, suc, _+_, _-_, _*_, _/_, _≤_, _<_, min, max}
 use native.Mathlib.Nat.{le-div-iff-mul-le, mul-add, lt-of-not-le}
 use native.Mathlib.Omega.{arith}
 use Rattle.rules.specs.Board.{away}
@@ -112,6 +112,12 @@ apart-below x i = omega arith
 -- a kind below 3 that is neither 0 nor 1 is 2
 pub third-kind : {kind : ℕ} → kind < 3 → (kind ≡ 0 → ⊥) → (kind ≡ 1 → ⊥) → kind ≡ 2
 third-kind l a b = omega arith
+
+-- in the other kinds but 0 a difference of rows is lifted to itself
+pub flat-lift : (kind dy : ℕ) → (kind ≡ 0 → ⊥) → dy ≡ measure kind .lift dy
+flat-lift zero dy other = absurd (other refl)
+flat-lift (suc zero) dy other = refl
+flat-lift (suc (suc k)) dy other = refl
 
 -- the place where i stops holding, from the last place that it holds
 pub place-of : (g : Gauge) (values : List ℕ) (i u p r : ℕ) → let n = length values in

@@ -2,7 +2,7 @@
 use crate::Gauge;
 use crate::crossing::core;
 use crate::square;
-ghost use Prim.Native.Nat.{_+_, _≤_, _<_};
+ghost use Prim.Native.Nat.{_+_, _*_, _≤_, _<_};
 ghost use mathlib.Core.Path.{_≡_};
 ghost use lib.ListN.{length};
 ghost use Rattle.rules.specs.Limits.{side-limit, line-limit};
@@ -39,6 +39,18 @@ fn combined(g: Gauge, dx: usize, v: u64) -> u64
         return d + v;
     }
     if d < v { v } else { d }
+}
+
+// What a difference of rows adds in its column.
+pub fn lifted(g: Gauge, dy: usize) -> u64
+    requires { ⌜ Known g × (dy < side-limit) ⌝ }
+    ensures { λ r. ⌜ (r ≡ measured g .lift dy) × (r < side-limit * side-limit) ⌝ }
+{
+    let kind = g.kind;
+    if kind == 0 {
+        return square(dy);
+    }
+    dy as u64
 }
 
 // The height of column i at the place x.

@@ -12,7 +12,7 @@ ghost use Rattle.rules.specs.Calls.{ChangeoverCall};
 
 mod crossing;
 pub mod engine;
-mod leaves;
+pub mod leaves;
 
 // The measure of a line: kind 0, 1 or 2.
 pub struct Gauge {

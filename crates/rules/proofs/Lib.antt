@@ -1,3 +1,4 @@
+pub mod Filling
 pub mod Order
 pub mod Board
 pub mod TieRule

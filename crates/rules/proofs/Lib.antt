@@ -1,4 +1,5 @@
 pub mod Filling
+pub mod Parts
 pub mod Order
 pub mod Board
 pub mod TieRule

@@ -9,7 +9,7 @@ use lib.IntN.{ℤ, pos, _-ℤ_}
 use mir.Syntax.{w32}
 use mir.Val.{SFits}
 use borrow.Author.Tests.{lt-ltb}
-use Rattle.rules.specs.Limits.{column-limit, value-limit}
+use Rattle.rules.specs.Limits.{column-limit}
 use Rattle.rules.specs.Changeover.{Changeover, numerator, divisor, floor}
 use Rattle.rules.specs.Refusals.{bad-changeover}
 use Rattle.rules.specs.Calls.{ChangeoverCall}

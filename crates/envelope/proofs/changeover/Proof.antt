@@ -1,6 +1,6 @@
 -- `envelope::changeover` meets its contract. Each test that answers is one way in which row 9 holds; past all four the inputs
 -- are good, and the answer is the floor, above zero or below. Assumes nothing.
-use mathlib.Core.Path.{_≡_, ap, ap₂}
+use mathlib.Core.Path.{_≡_, ap₂}
 use Prim.Native.Nat.{_+_, _-_, _*_, _/_}
 use native.Mathlib.Omega.{arith}
 use mir.Syntax.{w32}

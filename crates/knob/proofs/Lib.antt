@@ -1,0 +1,5 @@
+pub mod Words
+pub mod Range
+pub mod Scaling
+pub mod Opening
+pub mod Clearing

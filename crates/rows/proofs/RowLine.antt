@@ -51,27 +51,48 @@ combine-small zero v h = omega (arith, square-small h)
 combine-small (suc zero) v h = omega arith
 combine-small (suc (suc k)) v h = omega arith
 
-module _ {g : Gauge} {y : ℕ} {words values : List ℕ} (known : Known g) (row-in : y < side-limit)
-    (as-long : length words ≡ length values) (to : length values ≤ side-limit)
-    (named : (i : ℕ) → i < length values → Named side-limit (getD words i 0)) (F : Filled g y words values) where
-  -- the value of a column that names a row is small
-  true-value : (i : ℕ) → i < length values → getD words i 0 ≢ mark
-      → (getD values i 0 ≡ measured g .lift (away y (getD words i 0))) × (getD values i 0 < side-limit * side-limit)
-  true-value i h n =
-      let e : getD values i 0 ≡ measured g .lift (away y (getD words i 0)) = F .each i (omega arith) ∙ named-value g y n in
-      (e, rw e (lift-small (g .kind) (lt-of-le-of-lt (apart-below y (getD words i 0)) (omega (arith, row-named (named i h) n)))))
+-- A line of values made from the words of a row, whatever they are made of: a column that names a row has its true value,
+-- which is small, and a marked one the line limit.
+pub record Valued (words values : List ℕ) (value : ℕ → ℕ) : Type 0 where
+  pub as-long : length words ≡ length values
+  pub from : 1 ≤ length values
+  pub to : length values ≤ side-limit
+  pub named : (i : ℕ) → i < length values → Named side-limit (getD words i 0)
+  pub true-value : (i : ℕ) → i < length values → getD words i 0 ≢ mark → getD values i 0 ≡ value i
+  pub small : (i : ℕ) → i < length values → getD words i 0 ≢ mark → value i < 2 ^ 31
+  pub marked-value : (i : ℕ) → i < length values → getD words i 0 ≡ mark → getD values i 0 ≡ line-limit
 
+-- the values that fill puts are such a line
+pub valued-of : {g : Gauge} {y : ℕ} {words values : List ℕ} → y < side-limit → length words ≡ length values
+    → 1 ≤ length values → length values ≤ side-limit
+    → ((i : ℕ) → i < length values → Named side-limit (getD words i 0)) → Filled g y words values
+    → Valued words values (λ i. measured g .lift (away y (getD words i 0)))
+valued-of {g} {y} {words} row-in as-long from to named F =
+    record {
+      as-long = as-long;
+      from = from;
+      to = to;
+      named = named;
+      true-value = λ i h n. F .each i (omega arith) ∙ named-value g y n;
+      small =
+          λ i h n.
+          let l = row-named (named i h) n in
+          let s = lift-small (g .kind) (lt-of-le-of-lt (apart-below y (getD words i 0)) (omega arith)) in
+          omega (arith, s);
+      marked-value = λ i h e. F .each i (omega arith) ∙ marked-value g y e;
+    }
+
+module _ {g : Gauge} {words values : List ℕ} {value : ℕ → ℕ} (known : Known g) (val : Valued words values value) where
   -- the values of a row are a line
-  pub line-of : 1 ≤ length values → Line values
-  line-of from =
+  pub line-of : Line values
+  line-of =
       record {
-        from = from;
-        to = to;
+        from = val .from;
+        to = val .to;
         values-to =
             λ i h.
-            by-cases (ℕ-discrete (getD words i 0) mark)
-            (λ e. omega (arith, F .each i (omega arith), marked-value g y e))
-            (λ n. omega (arith, true-value i h n .1));
+            by-cases (ℕ-discrete (getD words i 0) mark) (λ e. omega (arith, val .marked-value i h e))
+            (λ n. omega (arith, val .true-value i h n, val .small i h n));
       }
 
   -- the height of a column that names a row is below that of every marked one, and a u32 word
@@ -79,15 +100,16 @@ module _ {g : Gauge} {y : ℕ} {words values : List ℕ} (known : Known g) (row-
       → (height-at g values i x < line-limit) × (height-at g values i x < 2 ^ 32)
   unfolding height-at
   true-height i x h l n =
-      let s = combine-small (g .kind) (getD values i 0) {dx = away x i} (lt-of-le-of-lt (apart-below x i) (omega arith)) in
-      let v = true-value i h n .1 in
+      let s = combine-small (g .kind) (getD values i 0) {dx = away x i} (lt-of-le-of-lt (apart-below x i) (omega (arith, val .to))) in
+      let v = val .small i h n in
+      let e = val .true-value i h n in
       (omega arith, omega arith)
 
   marked-height : (i x : ℕ) → i < length values → getD words i 0 ≡ mark → line-limit ≤ height-at g values i x
   unfolding height-at
   marked-height i x h e =
-      let v : getD values i 0 ≡ line-limit = F .each i (omega arith) ∙ marked-value g y e in
-      subst (λ b. b ≤ height-at g values i x) v (lawful (g .kind) (known .kind-in) .stands (away x i) (getD values i 0))
+      subst (λ b. b ≤ height-at g values i x) (val .marked-value i h e)
+      (lawful (g .kind) (known .kind-in) .stands (away x i) (getD values i 0))
 
   module _ {i₀ : ℕ} (i₀-in : i₀ < length values) (i₀-named : getD words i₀ 0 ≢ mark) where
     -- no marked column wins
@@ -103,8 +125,7 @@ module _ {g : Gauge} {y : ℕ} {words values : List ℕ} (known : Known g) (row-
     chosen-of W =
         record {
           column-in = λ x h. W x h .column-in;
-          named =
-              λ x h. row-named (named _ (W x h .column-in)) (winner-named h (W x h));
+          named = λ x h. row-named (val .named _ (W x h .column-in)) (winner-named h (W x h));
           small = λ x h. true-height _ x (W x h .column-in) h (winner-named h (W x h)) .1;
         }
 
@@ -112,22 +133,21 @@ module _ {g : Gauge} {y : ℕ} {words values : List ℕ} (known : Known g) (row-
     pub row-of : {winners distances sites : List ℕ}
         → ((x : ℕ) → x < length values → Wins (height-at g values) (length values) x (getD winners x 0))
         → Written g words values winners distances sites → (x : ℕ) → x < length values
-        → RowWord (length values) (measured g .combine) (λ i. getD words i 0)
-        (λ i. measured g .lift (away y (getD words i 0))) x (getD distances x 0) (getD sites x 0)
+        → RowWord (length values) (measured g .combine) (λ i. getD words i 0) value x (getD distances x 0) (getD sites x 0)
     unfolding height-at
     row-of {winners} W O x h =
         let i = getD winners x 0 in
         let w = W x h in
         let n = winner-named h w in
         let at : (k : ℕ) → k < length values → getD words k 0 ≢ mark → height-at g values k x
-        ≡ measured g .combine (away x k) (measured g .lift (away y (getD words k 0))) =
-        λ k l m. ap (measured g .combine (away x k)) (true-value k l m .0) in
+        ≡ measured g .combine (away x k) (value k) =
+        λ k l m. ap (measured g .combine (away x k)) (val .true-value k l m) in
         record {
           i = i;
           column-in = w .column-in;
           unmarked = n;
           word-is = O .word x h ∙ at i (w .column-in) n;
-          site-is = O .site x h ∙ ap (λ n. cell n i (getD words i 0)) as-long;
+          site-is = O .site x h ∙ ap (λ n. cell n i (getD words i 0)) (val .as-long);
           least = λ i′ l m. omega (arith, O .word x h, at i′ l m, w .lowest i′ l);
           least-column = λ i′ l m e. w .least-column i′ l (at i′ l m ∙ e ∙ O .word x h);
         }
@@ -186,6 +206,13 @@ module _ {g : Gauge} {y at tail w : ℕ} {scratch : List ℕ} (B : Believed g y 
       ∙ put-before {a = tail} k scratch part (omega (arith, B .room)) (omega (arith, B .before-tail))
       ∙ sym (part-at at (at + w) scratch i l))
 
+  -- the values that fill puts for this row
+  pub valued : {values : List ℕ} → length values ≡ w → Filled g y (words-part at w scratch) values
+      → Valued (words-part at w scratch) values (λ i. measured g .lift (away y (getD (words-part at w scratch) i 0)))
+  valued long F =
+      valued-of (B .row-in) (words-length ∙ sym long) (omega (arith, B .from)) (omega (arith, B .to))
+      (λ i l. words-named i (omega (arith, words-length))) F
+
   -- the row made, from what the three steps leave
   pub row-made : {values winners distances sites : List ℕ} (part : List ℕ) → length values ≡ w
       → Filled g y (words-part at w scratch) values
@@ -202,7 +229,7 @@ module _ {g : Gauge} {y at tail w : ℕ} {scratch : List ℕ} (B : Believed g y 
             row-same (λ word. measured g .lift (away y word)) words-at
             (subst (λ n. RowWord n (measured g .combine) (λ i. getD (words-part at w scratch) i 0)
             (λ i. measured g .lift (away y (getD (words-part at w scratch) i 0))) x (getD distances x 0) (getD sites x 0)) long
-            (row-of (B .known) (B .row-in) (words-length ∙ sym long) (omega (arith, B .to)) (λ i l. words-named i (omega (arith, words-length))) F (omega (arith, B .i₀-in)) words-some W O x (omega arith)));
+            (row-of (B .known) (valued long F) (omega (arith, B .i₀-in)) words-some W O x (omega arith)));
         kept = λ k h. put-before (tail + w + w - tail) scratch part (omega (arith, B .room)) h;
         beyond = drop-put tail (tail + w + w) scratch part (omega arith) (B .room) long-part;
         as-long = same-len-mid tail (tail + w + w - tail) scratch part room;

@@ -1,16 +1,34 @@
 -- `rows::row_line` meets its contract: fill, engine and write-out, one after the other. The row's words stand before the tail,
 -- so the engine's use of the tail leaves them as they were. Assumes nothing.
-use mathlib.Core.Path.{_∙_, sym, ap}
-use Prim.Native.Nat.{ℕ, _+_, _-_, _<_}
-use lib.ListN.{length, getD}
-use borrow.Rule.Slice.PartMut.{same-len-mid}
-use Rattle.rules.specs.Limits.{side-limit}
-use Rattle.rows.specs.Row.{Named}
+use mathlib.Core.Path.{_≡_, _∙_, sym, ap}
+use Prim.Native.Nat.{_+_, _-_}
 use native.Mathlib.Omega.{arith}
-use Rattle.rows.proofs.RowLine.{words-part, words-length, tail-length, words-named, words-some, words-stay, line-of, chosen-of, row-made}
+use lib.ListN.{length}
 use borrow.Author.Needs.{needs}
+use borrow.Rule.Slice.PartMut.{putMid, same-len-mid}
+use Rattle.rows.proofs.RowLine.{words-part, words-length, tail-length, words-named, words-some, words-stay, valued, line-of, chosen-of, row-made}
 use Rattle.rows.proofs.row_line.Statement.{statement}
 use Rattle.rows.proofs.row_line.Tie as tie
+
+-- the ways back: from the filled line to the entry, from the winners to the filled line, and from write-out to the winners
+abbrev entry : tie.After-fill → tie.Start
+entry c = c .before .before .before .before .before .before .before .before
+
+abbrev filled : tie.After-winners-of → tie.After-fill
+filled c = c .before .before .before .before .before .before
+
+abbrev won : tie.After-write-out-arg4 → tie.After-winners-of
+won c = c .before .before .before .before .before .before .before .before .before
+
+-- the row's words are where they were when the engine has used the tail
+stay : (c : tie.After-winners-of) → let a = entry (filled c) .args in let w = length (a .values .now) in
+    words-part (a .at) w (putMid (a .tail) (a .tail + w + w - a .tail) (a .scratch .now) (c .winners-of .last .1 .1 .0))
+    ≡ words-part (a .at) w (a .scratch .now)
+stay c =
+    let a = entry (filled c) .args in
+    let k = a .tail + length (a .values .now) + length (a .values .now) - a .tail in
+    let part = c .winners-of .last .1 .1 .0 in
+    words-stay (entry (filled c) .pre .0) k part (same-len-mid (a .tail) k (a .scratch .now) part (c .winners-of .kept .1 .1 .0))
 
 add-end : tie.Need-add-end
 add-end c = search needs
@@ -34,8 +52,8 @@ part-fill-end : tie.Need-part-fill-end
 part-fill-end c = search needs
 
 fill-requires : tie.Need-fill-requires
-fill-requires c κs = let b = c .before .before .before .before .before .before .before .pre .0 in
-    (b .known, b .row-in, sym (words-length b), words-named b)
+fill-requires c κs =
+    let b = c .before .before .before .before .before .before .before .pre .0 in (b .known, b .row-in, sym (words-length b), words-named b)
 
 mul-winners-of : tie.Need-mul-winners-of
 mul-winners-of c = search needs
@@ -50,9 +68,15 @@ part-winners-of-end : tie.Need-part-winners-of-end
 part-winners-of-end c = search needs
 
 winners-of-requires : tie.Need-winners-of-requires
-winners-of-requires c κs = let p = c .before .before .before .before .before .before .before .before .before .before .before .before .before .pre in
-    let long = c .before .before .before .before .before .fill .kept .1 .1 .1 .0 in
-    (p .0 .known, line-of (p .0 .known) (p .0 .row-in) (words-length (p .0) ∙ sym long) (omega (arith, p .0 .to)) (λ i l. words-named (p .0) i (omega (arith, words-length (p .0)))) (c .before .before .before .before .before .fill .ensures) (omega (arith, p .0 .from)), record { words = tail-length (p .0) ∙ ap (λ n. n + n) (sym long) }, p .2 ∙ sym long)
+winners-of-requires c κs =
+    let f = c .before .before .before .before .before in
+    let p = entry f .pre in
+    let long = f .fill .kept .1 .1 .1 .0 in (
+      p .0 .known,
+      line-of (p .0 .known) (valued (p .0) long (f .fill .ensures)),
+      record { words = tail-length (p .0) ∙ ap (λ n. n + n) (sym long) },
+      p .2 ∙ sym long,
+    )
 
 mul-write-out : tie.Need-mul-write-out
 mul-write-out c = search needs
@@ -68,23 +92,17 @@ part-write-out-end c = search needs
 
 write-out-requires : tie.Need-write-out-requires
 write-out-requires c κs =
-    let p = c .before .before .before .before .before .before .before .before .before .before .before .before .before .before .before .before .before .before .before .before .before .before .before .pre in
-    let a = c .before .before .before .before .before .before .before .before .before .before .before .before .before .before .before .before .before .before .before .before .before .before .before .args in
+    let f = filled (won c) in
+    let p = entry f .pre in
     let b = p .0 in
-    let w = length (a .values .now) in
-    let part = c .before .before .before .before .before .before .before .before .before .winners-of .last .1 .1 .0 in
-    let long = c .before .before .before .before .before .before .before .before .before .before .before .before .before .before .before .fill .kept .1 .1 .1 .0 in
-    let winners = c .before .before .before .before .before .before .before .before .before .winners-of .kept .1 .1 .1 .0 in
-    let stay = words-stay b (a .tail + w + w - a .tail) part (same-len-mid (a .tail) (a .tail + w + w - a .tail) (a .scratch .now) part (c .before .before .before .before .before .before .before .before .before .winners-of .kept .1 .1 .0)) in
-    let named : (i : ℕ) → i < length (c .before .before .before .before .before .before .before .before .before .before .before .before .before .before .before .fill .last .1 .1 .1 .0) → Named side-limit (getD (words-part (a .at) w (a .scratch .now)) i 0) =
-    λ i l. words-named b i (omega (arith, words-length b)) in
-    let words = words-length b ∙ sym long in (
+    let long = f .fill .kept .1 .1 .1 .0 in
+    let v = valued b long (f .fill .ensures) in (
       b .known,
-      line-of (b .known) (b .row-in) words (omega (arith, b .to)) named (c .before .before .before .before .before .before .before .before .before .before .before .before .before .before .before .fill .ensures) (omega (arith, b .from)),
-      rw stay (chosen-of (b .known) (b .row-in) words (omega (arith, b .to)) named (c .before .before .before .before .before .before .before .before .before .before .before .before .before .before .before .fill .ensures) (omega (arith, b .i₀-in)) (words-some b) (c .before .before .before .before .before .before .before .before .before .winners-of .ensures)),
-      ap length stay ∙ words,
+      line-of (b .known) v,
+      rw (stay (won c)) (chosen-of (b .known) v (omega (arith, b .i₀-in)) (words-some b) (won c .winners-of .ensures)),
+      ap length (stay (won c)) ∙ words-length b ∙ sym long,
       p .1 ∙ sym long,
-      winners ∙ p .2 ∙ sym long,
+      won c .winners-of .kept .1 .1 .1 .0 ∙ p .2 ∙ sym long,
     )
 
 same-length : tie.Need-same-length
@@ -101,15 +119,12 @@ same-length-4 c = search needs
 
 returns : tie.Need-returns
 returns c =
-    let p = c .before .before .before .before .before .before .before .before .before .before .before .before .before .before .before .before .before .before .before .before .before .before .before .before .before .before .before .before .pre in
-    let a = c .before .before .before .before .before .before .before .before .before .before .before .before .before .before .before .before .before .before .before .before .before .before .before .before .before .before .before .before .args in
-    let b = p .0 in
-    let w = length (a .values .now) in
-    let part = c .before .before .before .before .before .before .before .before .before .before .before .before .before .before .winners-of .last .1 .1 .0 in
-    let room = c .before .before .before .before .before .before .before .before .before .before .before .before .before .before .winners-of .kept .1 .1 .0 in
-    let stay = words-stay b (a .tail + w + w - a .tail) part (same-len-mid (a .tail) (a .tail + w + w - a .tail) (a .scratch .now) part room) in
-    row-made b part (c .before .before .before .before .before .before .before .before .before .before .before .before .before .before .before .before .before .before .before .before .fill .kept .1 .1 .1 .0) (c .before .before .before .before .before .before .before .before .before .before .before .before .before .before .before .before .before .before .before .before .fill .ensures) (c .before .before .before .before .before .before .before .before .before .before .before .before .before .before .winners-of .ensures)
-    (rw stay at (c .before .before .before .before .write-out .ensures)) room
+    let o = c .before .before .before .before in
+    let w = won (o .before) in
+    let f = filled w in
+    let b = entry f .pre .0 in
+    row-made b (w .winners-of .last .1 .1 .0) (f .fill .kept .1 .1 .1 .0) (f .fill .ensures) (w .winners-of .ensures)
+    (rw (stay w) at (o .write-out .ensures)) (w .winners-of .kept .1 .1 .0)
 
 pub row-line-spec : {M : Type 1} → statement M
 row-line-spec =

@@ -153,7 +153,7 @@ module _ {g : Gauge} {words values : List ℕ} {value : ℕ → ℕ} (known : Kn
         }
 
 -- a row's map depends on the words of its columns alone
-row-same : {w : ℕ} {combine : ℕ → ℕ → ℕ} (lift : ℕ → ℕ) {words words′ : ℕ → ℕ} {x d site : ℕ}
+pub row-same : {w : ℕ} {combine : ℕ → ℕ → ℕ} (lift : ℕ → ℕ) {words words′ : ℕ → ℕ} {x d site : ℕ}
     → ((i : ℕ) → i < w → words i ≡ words′ i) → RowWord w combine words (λ i. lift (words i)) x d site
     → RowWord w combine words′ (λ i. lift (words′ i)) x d site
 row-same {w} {combine} lift {words} {words′} {x} same r =

@@ -22,11 +22,12 @@ use lib.ListN.{length, getD, drop, List·getD-eq-default}
 use borrow.Author.Tests.{ltb-false, leb-true, leb-false, eqb-true, eqb-false, not-true, not-false}
 use borrow.Author.Tests.{le-ltb, le-leb, lt-leb, eq-eqb, ne-eqb}
 use Rattle.rules.specs.declared.Setting.{Setting}
-use Rattle.rules.specs.Limits.{mark, cost-limit, column-limit, value-limit, clear-limit, file-limit, bench-side}
+use Rattle.rules.specs.Limits.{mark, cost-limit, file-limit, bench-side}
 use Rattle.rules.specs.Board.{Sides, cell, Bored, Unmarked}
 use Rattle.rules.specs.Measures.{chamfer-kind, Weights}
-use Rattle.rules.specs.BenchFile.{bored-by, outside}
-use Rattle.rules.specs.Refusals.{Row, row, answer, any, scratch-words}
+use Rattle.rules.specs.BenchFile.{bored-by}
+pub use Rattle.rules.specs.Accepted.{Lent, Slices, Bytes, Costs, Comparable, Somewhere, PictureAccepted, CostAccepted, LaneAccepted, ClearAccepted, FileAccepted}
+use Rattle.rules.specs.Refusals.{Row, row, answer, any}
 use Rattle.rules.specs.Refusals.{bad-sides, bad-kind, bad-weights, bad-buffers, bad-path, bad-slices, bad-byte}
 use Rattle.rules.specs.Refusals.{bad-cost, no-bore, all-marked, bad-ends, bad-setting, bad-changeover, bad-file}
 use Rattle.rules.specs.Refusals.{picture-rows, cost-rows, lane-rows, clear-rows, opening-rows, changeover-rows}
@@ -228,13 +229,6 @@ weights-good kind d1 d2 f =
     (λ q. let weights : Weights d1 d2 = f q in rw (eq-eqb kind chamfer-kind q) (search makes))
     (λ other. rw (ne-eqb kind chamfer-kind other))
 
--- what a map call is lent: a picture of W·H words, and no buffer below its minimum
-pub record Lent (w h picture distances sites scratch : ℕ) : Type 0 where
-  pub picture-is : picture ≡ w * h
-  pub distances-from : w * h ≤ distances
-  pub sites-from : w * h ≤ sites
-  pub scratch-from : scratch-words w h ≤ scratch
-
 -- row 4 does not hold: a map call is lent that
 pub buffers-passes : (w h picture distances sites scratch : ℕ) → bad-buffers w h picture distances sites scratch ≡ false
     → Lent w h picture distances sites scratch
@@ -256,12 +250,6 @@ path-passes w h path e = search reads
 pub path-good : (w h path : ℕ) → w * h ≤ path → bad-path w h path ≡ false
 unfolding bad-path
 path-good w h path l = search makes
-
--- the lengths of a clear map's slices: equal, at least 1, and not over the limit
-pub record Slices (squares clear : ℕ) : Type 0 where
-  pub as-long : squares ≡ clear
-  pub squares-from : 1 ≤ squares
-  pub squares-to : squares ≤ clear-limit
 
 -- row 4 does not hold: the slices of a clear map are so
 pub slices-passes : (squares clear : ℕ) → bad-slices squares clear ≡ false → Slices squares clear
@@ -287,10 +275,6 @@ byte-good zero h = refl
 byte-good (suc zero) h = refl
 byte-good (suc (suc b)) h = absurd (omega arith)
 
--- every byte of a picture is 0 or 1
-abbrev pub Bytes : List ℕ → Type 0
-Bytes picture = (k : ℕ) → k < length picture → getD picture k 0 ≤ 1
-
 -- row 5 does not hold: every byte of the picture is 0 or 1
 pub bytes-passes : (picture : List ℕ) → any bad-byte picture ≡ false → Bytes picture
 bytes-passes picture e k h = byte-passes (getD picture k 0) (any-false-means bad-byte picture e k h)
@@ -311,10 +295,6 @@ pub cost-good : (c : ℕ) → (c ≤ cost-limit) ⊎ (c ≡ mark) → bad-cost c
 unfolding bad-cost
 cost-good c (inl h) = rw (le-leb c cost-limit h)
 cost-good c (inr q) = rw (eq-eqb c mark q, or-true)
-
--- every cost is at most the limit, or the mark
-abbrev pub Costs : List ℕ → Type 0
-Costs costs = (k : ℕ) → k < length costs → (getD costs k 0 ≤ cost-limit) ⊎ (getD costs k 0 ≡ mark)
 
 -- row 5 does not hold: every cost is at most the limit, or the mark
 pub costs-passes : (costs : List ℕ) → any bad-cost costs ≡ false → Costs costs
@@ -361,13 +341,6 @@ pub ends-good : (w h from to : ℕ) → (from < w * h) × (to < w * h) → bad-e
 unfolding bad-ends
 ends-good w h from to p = search makes
 
--- two columns, the first to the left, and their values, which a changeover may be asked of
-pub record Comparable (i u a b : ℕ) : Type 0 where
-  pub left : i < u
-  pub column-to : u ≤ column-limit
-  pub left-to : a ≤ value-limit
-  pub right-to : b ≤ value-limit
-
 -- row 9 does not hold: the columns and values are so
 pub changeover-passes : (i u a b : ℕ) → bad-changeover i u a b ≡ false → Comparable i u a b
 unfolding bad-changeover
@@ -394,10 +367,6 @@ getD-within [] k d d′ h = absurd (not-suc-le-zero h)
 getD-within (b ∷ l) zero d d′ h = refl
 getD-within (b ∷ l) (suc k) d d′ h = getD-within l k d d′ (le-of-suc-le-suc h)
 
--- some cell of the board has it
-abbrev pub Somewhere : ℕ → ℕ → (ℕ → ℕ → Type 0) → Type 0
-Somewhere w h Has = (x : ℕ) × (y : ℕ) × (x < w) × (y < h) × Has x y
-
 -- what the cell with the number k has, the cell in column k % W and row k / W has
 somewhere : (w h : ℕ) (P : ℕ → Type 0) → 1 ≤ w → (k : ℕ) → k < w * h → P k → Somewhere w h (λ x y. P (cell w x y))
 somewhere w h P wide k l p =
@@ -416,15 +385,6 @@ pub unmarked-somewhere : (w h : ℕ) (costs : List ℕ) → 1 ≤ w → length c
 unmarked-somewhere w h costs wide long e =
     let (k, l, other) = unmarked-passes costs e in
     somewhere w h (λ (c : ℕ). getD costs c mark ≢ mark) wide k (omega arith) (rw (getD-within costs k mark 0 l) other)
-
--- what a picture call has that answers 0
-pub record PictureAccepted (w h kind d1 d2 : ℕ) (picture : List ℕ) (distances sites scratch : ℕ) : Type 0 where
-  pub sides : Sides w h
-  pub kind-in : kind ≤ 3
-  pub weights : kind ≡ chamfer-kind → Weights d1 d2
-  pub lent : Lent w h (length picture) distances sites scratch
-  pub bytes : Bytes picture
-  pub bored : Somewhere w h (Bored w picture)
 
 module _ (w h kind d1 d2 : ℕ) (picture : List ℕ) (distances sites scratch : ℕ) where
   -- "Pictures test 1 to 6"
@@ -451,14 +411,6 @@ module _ (w h kind d1 d2 : ℕ) (picture : List ℕ) (distances sites scratch : 
         bored = bored-somewhere w h picture (sides .width-from) (lent .picture-is) (passed 5 (lit< tt));
       }
 
--- what a cost call has that answers 0
-pub record CostAccepted (w h kind : ℕ) (costs : List ℕ) (distances sites scratch : ℕ) : Type 0 where
-  pub sides : Sides w h
-  pub kind-in : kind ≤ 1
-  pub lent : Lent w h (length costs) distances sites scratch
-  pub costs-in : Costs costs
-  pub unmarked : Somewhere w h (Unmarked w costs)
-
 module _ (w h kind : ℕ) (costs : List ℕ) (distances sites scratch : ℕ) where
   -- "costs 1, 2, 4, 5, 6"
   pub cost-order : numbers (cost-rows w h kind costs distances sites scratch) ≡ 1 ∷ 2 ∷ 4 ∷ 5 ∷ 6 ∷ []
@@ -482,16 +434,6 @@ module _ (w h kind : ℕ) (costs : List ℕ) (distances sites scratch : ℕ) whe
         costs-in = costs-passes costs (passed 3 (lit< tt));
         unmarked = unmarked-somewhere w h costs (sides .width-from) (lent .picture-is) (passed 4 (lit< tt));
       }
-
--- what a lane call has that answers 0
-pub record LaneAccepted (w h : ℕ) (picture : List ℕ) (from to distances sites scratch path : ℕ) : Type 0 where
-  pub sides : Sides w h
-  pub lent : Lent w h (length picture) distances sites scratch
-  pub path-from : w * h ≤ path
-  pub bytes : Bytes picture
-  pub bored : Somewhere w h (Bored w picture)
-  pub from-in : from < w * h
-  pub to-in : to < w * h
 
 module _ (w h : ℕ) (picture : List ℕ) (from to distances sites scratch path : ℕ) where
   -- "a lane 1, 4, 5, 6, 7"
@@ -520,11 +462,6 @@ module _ (w h : ℕ) (picture : List ℕ) (from to distances sites scratch path 
         from-in = ends .0;
         to-in = ends .1;
       }
-
--- what a clear map call has that answers 0
-pub record ClearAccepted (s : Setting) (squares clear : ℕ) : Type 0 where
-  pub slices : Slices squares clear
-  pub setting : bad-setting s ≡ false
 
 module _ (s : Setting) (squares clear : ℕ) where
   -- "a clear map 4, 8"
@@ -566,13 +503,6 @@ module _ (i u a b : ℕ) where
   -- and 0 tells its facts
   pub changeover-accepted : answer (changeover-rows i u a b) ≡ 0 → Comparable i u a b
   changeover-accepted e = changeover-passes i u a b (changeover-row-by-row .none .0 e 0 (lit< tt))
-
--- what a bench file has that answers 0
-pub record FileAccepted (bytes : List ℕ) : Type 0 where
-  pub whole : length bytes % 4 ≡ 0
-  pub length-to : length bytes ≤ file-limit
-  pub inside : outside bytes ≡ false
-  pub bored : Somewhere bench-side bench-side (Bored bench-side (bored-by bytes))
 
 module _ (bytes : List ℕ) where
   -- "the file program tests 10, 11, 6"

@@ -9,6 +9,7 @@ pub mod Changeover
 pub mod Knob
 pub mod Lane
 pub mod Refusals
+pub mod Accepted
 pub mod BenchFile
 pub mod Answers
 pub mod Calls

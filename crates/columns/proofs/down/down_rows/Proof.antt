@@ -1,0 +1,85 @@
+-- `columns::down::down_rows` meets its contract. The loop's invariant: the rows before y are done, and row y begins at
+-- `start`. The measure is the number of cells left. Assumes nothing.
+use mathlib.Core.Path.{_∙_}
+use Prim.Native.Nat.{_-_, _*_, _<_}
+use native.Mathlib.Omega.{arith}
+use Rattle.columns.proofs.Lowering.{Lowering, top-inside, lowering-start, two-rows, lowering-more, lowering-end}
+use Rattle.columns.proofs.down.down_rows.Statement.{statement}
+use Rattle.columns.proofs.down.down_rows.Tie as tie
+
+abbrev Inv-loop : tie.InvT-loop
+Inv-loop w h a b picture words₀ start₀ y₀ words start y = Lowering w h a b picture words₀ words start y
+
+abbrev μ-loop : tie.MeasureT-loop
+μ-loop w h a b picture words₀ start₀ y₀ words start y = w * h - start
+
+-- the function's entry, from the loop
+abbrev entry : tie.At-loop Inv-loop μ-loop → tie.Start Inv-loop μ-loop
+entry c = c .before .before .before .before .before .before .before
+
+-- the call that did the top row, from the loop
+abbrev topped : tie.At-loop Inv-loop μ-loop → tie.After-top-row Inv-loop μ-loop
+topped c = c .before .before .before
+
+-- the turn of the loop, from its end
+abbrev turn : tie.After-slice-known3 Inv-loop μ-loop → tie.In-loop Inv-loop μ-loop
+turn c = c .before .before .before .before
+
+-- the row of this turn begins on the board
+begins : (c : tie.In-loop Inv-loop μ-loop) →
+    let e = entry (c .before) in c .before .loop .start < e .args .w * e .args .h
+begins c = omega (arith, entry (c .before) .pre .1)
+
+top-row-requires : tie.Need-top-row-requires Inv-loop μ-loop
+top-row-requires c κs =
+    let p = c .before .before .before .pre in omega (arith, p .0 .ordered, top-inside (p .0))
+
+loop-holds : tie.Need-loop-holds Inv-loop μ-loop
+loop-holds c = lowering-start (c .before .before .before .before .before .before .pre .0)
+
+down-row-requires : tie.Need-down-row-requires Inv-loop μ-loop
+down-row-requires c κs =
+    let loop = c .before .before in
+    let p = entry loop .pre in
+    let inside = two-rows (p .0) (loop .loop .inv) (begins (c .before)) in
+    omega (arith, p .0, topped loop .top-row .kept .1 .1 .1 .0, loop .loop .inv .as-long)
+
+add-start : tie.Need-add-start Inv-loop μ-loop
+add-start c =
+    let loop = turn c .before in
+    let p = entry loop .pre in omega (arith, two-rows (p .0) (loop .loop .inv) (begins (turn c)))
+
+add-y : tie.Need-add-y Inv-loop μ-loop
+add-y c = let loop = turn c .before in omega (arith, loop .loop .inv .to, entry loop .pre .0 .sides)
+
+loop-less : tie.Need-loop-less Inv-loop μ-loop
+loop-less c = omega (arith, begins (turn c), entry (turn c .before) .pre .0 .sides)
+
+loop-again : tie.Need-loop-again Inv-loop μ-loop
+loop-again c =
+    let loop = turn c .before in
+    lowering-more (entry loop .pre .0) (loop .loop .inv) (begins (turn c)) (c .before .before .down-row .ensures)
+
+same-length : tie.Need-same-length Inv-loop μ-loop
+same-length c = c .before .loop .inv .as-long ∙ topped (c .before) .top-row .kept .1 .1 .1 .0
+
+returns : tie.Need-returns Inv-loop μ-loop
+returns c =
+    let p = entry (c .before) .pre in
+    lowering-end (p .0) (c .before .loop .inv) (omega arith) (topped (c .before) .top-row .ensures)
+
+pub down-rows-spec : {M : Type 1} → statement M
+down-rows-spec =
+    tie.close
+    (tie.spec
+    Inv-loop
+    μ-loop
+    top-row-requires
+    loop-holds
+    down-row-requires
+    add-start
+    add-y
+    loop-less
+    loop-again
+    same-length
+    returns)

@@ -1,0 +1,3 @@
+pub mod Bands
+pub mod Words
+pub mod Rows

@@ -1,0 +1,42 @@
+-- `chamfer::scan_map` meets its contract: the words that are lent on are the first w·h of the buffer, and the map is
+-- made in them. Assumes nothing.
+use mathlib.Core.Path.{sym, _∙_}
+use borrow.Author.Needs.{needs}
+use lib.Seq.{length-take-le}
+use Rattle.chamfer.proofs.Ending.{scanned}
+use Rattle.chamfer.proofs.scan_map.Statement.{statement}
+use Rattle.chamfer.proofs.scan_map.Tie as tie
+
+mul-n : tie.Need-mul-n
+mul-n c = search needs
+
+slice-relend-prefix-map-words : tie.Need-slice-relend-prefix-map-words
+slice-relend-prefix-map-words c = search needs
+
+slice-aggregate-map-words : tie.Need-slice-aggregate-map-words
+slice-aggregate-map-words c = sym (length-take-le _ _ (c .before .before .before .pre .3))
+
+map-words-requires : tie.Need-map-words-requires
+map-words-requires c κs =
+    let p = c .before .before .before .pre in
+    (record { sides = p .0; weights = p .1 }, p .2, length-take-le _ _ (p .3), p .4)
+
+same-length : tie.Need-same-length
+same-length c = search needs
+
+returns : tie.Need-returns
+returns c =
+    let s = c .before .before .before .before .before .before in
+    let m = c .before .before .map-words in
+    scanned _ (s .args .distances .now) (m .ensures) (m .kept .1 .1 .0 ∙ length-take-le _ _ (s .pre .3)) (s .pre .3)
+
+pub scan-map-spec : {M : Type 1} → statement M
+scan-map-spec =
+    tie.close
+    (tie.spec
+    mul-n
+    slice-relend-prefix-map-words
+    slice-aggregate-map-words
+    map-words-requires
+    same-length
+    returns)

@@ -1,0 +1,34 @@
+-- `chamfer::scans::map_words` meets its contract: what is reached before the scans, and then what each scan brings.
+-- Assumes nothing.
+use mathlib.Core.Path.{_∙_}
+use borrow.Author.Needs.{needs}
+use Rattle.chamfer.proofs.Beginning.{first-words, begun}
+use Rattle.chamfer.proofs.scans.map_words.Statement.{statement}
+use Rattle.chamfer.proofs.scans.map_words.Tie as tie
+
+begin-requires : tie.Need-begin-requires
+begin-requires c κs = search needs
+
+forward-requires : tie.Need-forward-requires
+forward-requires c κs =
+    let g = c .before .before .before in
+    let s = g .before .before .before .before in
+    (s .pre .0, first-words (g .begin .ensures) (g .begin .kept .1 .0 ∙ s .pre .2))
+
+backward-requires : tie.Need-backward-requires
+backward-requires c κs = search needs
+
+same-length : tie.Need-same-length
+same-length c = search needs
+
+returns : tie.Need-returns
+returns c =
+    let f = c .before .before .before .before .before .before in
+    let g = f .before .before .before .before in
+    let s = g .before .before .before .before in
+    let first = begun (g .begin .ensures) (g .begin .kept .1 .0 ∙ s .pre .2) (s .pre .0) (s .pre .3) in
+    c .before .before .backward .ensures .reaches _ (f .forward .ensures .reaches _ first)
+
+pub map-words-spec : {M : Type 1} → statement M
+map-words-spec =
+    tie.close (tie.spec begin-requires forward-requires backward-requires same-length returns)

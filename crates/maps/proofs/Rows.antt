@@ -1,0 +1,161 @@
+-- Row after row. A row line writes its own row of distances and sites and uses the words after the cells' words; so the rows
+-- before it stay, the rows after it are untouched, and the next row finds its words as they were. Assumes nothing.
+use mathlib.Core.Path.{_≡_, refl, sym, _∙_, ap, subst, subst₂}
+use mathlib.Core.Logic.{inl, inr, ⊎-elim, by-cases}
+use mathlib.Core.List.{List}
+use Prim.Native.Nat.{ℕ, _+_, _-_, _*_, _≤_, _<_}
+use native.Mathlib.Nat.{mul-le-mul, mul-le-mul-right, eq-or-lt-of-le}
+use native.Mathlib.Decide.{ℕ-discrete}
+use native.Mathlib.Omega.{arith}
+use lib.ListN.{length, getD, drop}
+use lib.Seq.{drop-drop}
+use borrow.Rule.Slice.PartMut.{putMid, drop-put, same-len-mid}
+use Rattle.rules.specs.Limits.{side-limit, mark}
+use Rattle.rules.specs.Board.{Sides, cell, away}
+use Rattle.rules.specs.Columns.{RowWord}
+use Rattle.rules.specs.Calls.{Beyond}
+use Rattle.rules.proofs.Parts.{put-before, put-inside, part-length}
+use Rattle.envelope.specs.declared.Gauge.{Gauge}
+use Rattle.envelope.specs.Line.{Known, measured}
+use Rattle.rows.specs.Row.{Believed, RowMade}
+use Rattle.rows.proofs.RowLine.{row-same}
+use Rattle.maps.specs.Rows.{word-of, Believable, RowsMade}
+
+-- no row yet
+pub rows-none : {g : Gauge} {w h : ℕ} (scratch d s : List ℕ) → RowsMade g w h 0 scratch scratch d d s s
+rows-none scratch d s =
+    record {
+      rows = λ x y h l. absurd (omega arith);
+      kept = λ k h. refl;
+      scratch-beyond = record { as-long = refl; untouched = refl };
+      distances-beyond = record { as-long = refl; untouched = refl };
+      sites-beyond = record { as-long = refl; untouched = refl };
+    }
+
+-- the rows of a board have room for one another
+row-room : (w : ℕ) {h y : ℕ} → y < h → y * w + w ≤ w * h
+row-room w {h} {y} l = omega (arith, mul-le-mul-right w l)
+
+-- what is untouched beyond the row's end
+row-beyond : {at end : ℕ} (before now part : List ℕ) → at ≤ end → end ≤ length now → length part ≡ end - at
+    → Beyond at before now → Beyond end before (putMid at (end - at) now part)
+row-beyond {at} {end} before now part h l e B =
+    let more : drop (end - at) (drop at now) ≡ drop (end - at) (drop at before) = ap (drop (end - at)) (B .untouched) in
+    let whole : at + (end - at) ≡ end = omega arith in
+    record {
+      as-long = same-len-mid at (end - at) now part (e ∙ sym (part-length {a = at} now h l)) ∙ B .as-long;
+      untouched =
+          drop-put at end now part h l e
+          ∙ subst (λ n. drop n now ≡ drop n before) whole
+          (sym (drop-drop (end - at) at now) ∙ more ∙ drop-drop (end - at) at before);
+    }
+
+module _ {g : Gauge} {w h : ℕ} {before d s : List ℕ} (sides : Sides w h) where
+  -- what the next row line asks
+  pub row-believed : {y : ℕ} {after d′ s′ : List ℕ} → Known g → Believable w h before → w * h + w + w ≤ length before
+      → y < h → RowsMade g w h y before after d d′ s s′ → Believed g y (y * w) (w * h) after w
+  row-believed {y} {after} known B room l R =
+      let same : (i : ℕ) → i < w → getD after (y * w + i) 0 ≡ word-of w before y i =
+      λ i h. R .kept (y * w + i) (omega (arith, row-room w l)) in
+      record {
+        known = known;
+        row-in = omega (arith, sides .height-to);
+        from = sides .width-from;
+        to = sides .width-to;
+        before-tail = row-room w l;
+        room = omega (arith, R .scratch-beyond .as-long);
+        named =
+            λ i h.
+            by-cases (ℕ-discrete (word-of w before y i) mark) (λ e. inr (same i h ∙ e))
+            (λ n. inl (omega (arith, same i h, B .named i y h l n, sides .height-to)));
+        i₀ = B .i₀;
+        i₀-in = B .i₀-in;
+        i₀-named = λ e. B .i₀-named y l (sym (same (B .i₀) (B .i₀-in)) ∙ e);
+      }
+
+  module _ {y : ℕ} {after after′ d′ s′ : List ℕ} (drow srow : List ℕ) (l : y < h) (d-long : w * h ≤ length d)
+      (s-long : w * h ≤ length s) (drow-long : length drow ≡ w) (srow-long : length srow ≡ w)
+      (R : RowsMade g w h y before after d d′ s s′) (M : RowMade g y (y * w) (w * h) w after after′ drow srow) where
+    d-now : y * w + w ≤ length d′
+    d-now = omega (arith, row-room w l, R .distances-beyond .as-long)
+
+    s-now : y * w + w ≤ length s′
+    s-now = omega (arith, row-room w l, R .sites-beyond .as-long)
+
+    -- this row
+    here : (x : ℕ) → x < w → RowWord w (measured g .combine) (word-of w before y)
+        (λ i. measured g .lift (away y (word-of w before y i))) x
+        (getD (putMid (y * w) (y * w + w - y * w) d′ drow) (cell w x y) 0)
+        (getD (putMid (y * w) (y * w + w - y * w) s′ srow) (cell w x y) 0)
+    here x in-row =
+        subst₂ (λ a b. RowWord w (measured g .combine) (word-of w before y)
+        (λ i. measured g .lift (away y (word-of w before y i))) x a b)
+        (sym (put-inside {a = y * w} (y * w + w - y * w) d′ drow (omega (arith, d-now)) (omega (arith, drow-long))))
+        (sym (put-inside {a = y * w} (y * w + w - y * w) s′ srow (omega (arith, s-now)) (omega (arith, srow-long))))
+        (row-same (λ word. measured g .lift (away y word))
+        (λ i b. R .kept (y * w + i) (omega (arith, row-room w l))) (M .row x in-row))
+
+    -- an earlier row
+    earlier : (x y′ : ℕ) → x < w → y′ < y → RowWord w (measured g .combine) (word-of w before y′)
+        (λ i. measured g .lift (away y′ (word-of w before y′ i))) x
+        (getD (putMid (y * w) (y * w + w - y * w) d′ drow) (cell w x y′) 0)
+        (getD (putMid (y * w) (y * w + w - y * w) s′ srow) (cell w x y′) 0)
+    earlier x y′ in-row b =
+        let low : cell w x y′ < y * w = omega (arith, mul-le-mul-right w b) in
+        subst₂ (λ a b. RowWord w (measured g .combine) (word-of w before y′)
+        (λ i. measured g .lift (away y′ (word-of w before y′ i))) x a b)
+        (sym (put-before {a = y * w} (y * w + w - y * w) d′ drow (omega (arith, d-now)) low))
+        (sym (put-before {a = y * w} (y * w + w - y * w) s′ srow (omega (arith, s-now)) low)) (R .rows x y′ in-row b)
+
+    -- one row more
+    pub rows-more : RowsMade g w h (y + 1) before after′ d (putMid (y * w) (y * w + w - y * w) d′ drow) s
+        (putMid (y * w) (y * w + w - y * w) s′ srow)
+    rows-more =
+        record {
+          rows =
+              λ x y′ in-row k.
+              let at-most : y′ ≤ y = omega arith in
+              ⊎-elim
+              (λ e. subst (λ n. RowWord w (measured g .combine) (word-of w before n)
+              (λ i. measured g .lift (away n (word-of w before n i))) x
+              (getD (putMid (y * w) (y * w + w - y * w) d′ drow) (cell w x n) 0)
+              (getD (putMid (y * w) (y * w + w - y * w) s′ srow) (cell w x n) 0)) (sym e) (here x in-row))
+              (λ b. earlier x y′ in-row b) (eq-or-lt-of-le at-most);
+          kept = λ k h. M .kept k h ∙ R .kept k h;
+          scratch-beyond = record {
+            as-long = M .as-long ∙ R .scratch-beyond .as-long;
+            untouched = M .beyond ∙ R .scratch-beyond .untouched;
+          };
+          distances-beyond =
+              subst (λ n. Beyond n d (putMid (y * w) (y * w + w - y * w) d′ drow)) next
+              (row-beyond {end = y * w + w} d d′ drow (omega arith) d-now (omega (arith, drow-long)) (R .distances-beyond));
+          sites-beyond =
+              subst (λ n. Beyond n s (putMid (y * w) (y * w + w - y * w) s′ srow)) next
+              (row-beyond {end = y * w + w} s s′ srow (omega arith) s-now (omega (arith, srow-long)) (R .sites-beyond));
+        }
+      where
+        next : y * w + w ≡ (y + 1) * w
+        next = omega arith
+
+  -- the same with the row's first cell by another name, as the loop has it
+  pub believed-at : {y : ℕ} {after d′ s′ : List ℕ} (at : ℕ) → at ≡ y * w → Known g → Believable w h before
+      → w * h + w + w ≤ length before → y < h → RowsMade g w h y before after d d′ s s′
+      → Believed g y at (w * h) after w
+  believed-at {y} {after} at e known B room l R =
+      subst (λ k. Believed g y k (w * h) after w) (sym e) (row-believed known B room l R)
+
+  pub rows-more-at : {y : ℕ} {after after′ d′ s′ : List ℕ} (at : ℕ) (drow srow : List ℕ) → at ≡ y * w → y < h
+      → w * h ≤ length d → w * h ≤ length s → length drow ≡ w → length srow ≡ w
+      → RowsMade g w h y before after d d′ s s′ → RowMade g y at (w * h) w after after′ drow srow
+      → RowsMade g w h (y + 1) before after′ d (putMid at (at + w - at) d′ drow) s (putMid at (at + w - at) s′ srow)
+  rows-more-at {y} {after} {after′} {d′} {s′} at drow srow e l d-long s-long drow-long srow-long R =
+      subst (λ k. RowMade g y k (w * h) w after after′ drow srow
+      → RowsMade g w h (y + 1) before after′ d (putMid k (k + w - k) d′ drow) s (putMid k (k + w - k) s′ srow)) (sym e)
+      (rows-more drow srow l d-long s-long drow-long srow-long R)
+
+-- a board has few cells, and its rows begin among them
+pub cells-few : {w h : ℕ} → Sides w h → w * h ≤ side-limit * side-limit
+cells-few s = mul-le-mul (s .width-to) (s .height-to)
+
+pub row-in-cells : (w : ℕ) {h y at : ℕ} → at ≡ y * w → y < h → at + w ≤ w * h
+row-in-cells w e l = omega (arith, row-room w l)

@@ -1,0 +1,57 @@
+// The rows of a map: every row line, and the words that are set when the map is done.
+use envelope::Gauge;
+use rows::row_line;
+use rules::SIDE;
+ghost use Prim.Native.Nat.{ℕ, _+_, _*_, _≤_, _<_};
+ghost use mathlib.Core.Path.{_≡_};
+ghost use lib.ListN.{length, getD};
+ghost use Rattle.rules.specs.Board.{Sides};
+ghost use Rattle.envelope.specs.Line.{Known};
+ghost use Rattle.maps.specs.Rows.{Believable, RowsMade};
+
+// All row lines, from the top. The words of the rows stand in the scratch's first w·h words, and the 2w after them are
+// free.
+pub fn all_rows(
+    g: Gauge,
+    w: usize,
+    h: usize,
+    distances: &mut [u32],
+    sites: &mut [u32],
+    scratch: &mut [u32],
+)
+    requires { ⌜ Known g × Sides w h × (w * h ≤ length (now distances)) × (w * h ≤ length (now sites))
+        × (w * h + w + w ≤ length (now scratch)) × Believable w h (now scratch) ⌝ }
+    ensures { λ _. ⌜ RowsMade g w h h (now (scratch .entry)) (now (scratch .exit)) (now (distances .entry)) (now (distances .exit))
+        (now (sites .entry)) (now (sites .exit)) ⌝ }
+{
+    let mut line = [0u64; SIDE as usize];
+    let tail = w * h;
+    let mut at = 0;
+    let mut y = 0;
+    while y < h {
+        let end = at + w;
+        row_line(
+            g,
+            y,
+            at,
+            tail,
+            scratch,
+            &mut line[..w],
+            &mut distances[at..end],
+            &mut sites[at..end],
+        );
+        at = end;
+        y += 1;
+    }
+}
+
+// Every word set to one value.
+pub fn set_all(words: &mut [u32], value: u32)
+    ensures { λ _. ⌜ ((k : ℕ) → k < length (now (words .entry)) → getD (now (words .exit)) k 0 ≡ value) ⌝ }
+{
+    let mut k = 0;
+    while k < words.len() {
+        words[k] = value;
+        k += 1;
+    }
+}

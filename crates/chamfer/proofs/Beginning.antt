@@ -11,7 +11,7 @@ use lib.ListN.{length, getD, List·getD-eq-default}
 use Rattle.rules.specs.Board.{cell, away, Bored}
 use Rattle.rules.specs.Limits.{side-limit, weight-limit}
 use Rattle.rules.specs.Measures.{Weights, chamfer}
-use Rattle.rules.proofs.Refusals.{Somewhere}
+use Rattle.rules.specs.Accepted.{Somewhere}
 use Rattle.rules.proofs.Table.{Walk, start, least}
 use Rattle.chamfer.specs.declared.Board.{Board}
 use Rattle.chamfer.specs.Neighbours.{far, Ruled, Words, On, word}

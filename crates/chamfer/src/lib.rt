@@ -8,7 +8,7 @@ ghost use mathlib.Core.Path.{_≡_};
 ghost use lib.ListN.{length};
 ghost use Rattle.rules.specs.Board.{Sides, Bored};
 ghost use Rattle.rules.specs.Measures.{Weights};
-ghost use Rattle.rules.proofs.Refusals.{Somewhere};
+ghost use Rattle.rules.specs.Accepted.{Somewhere};
 ghost use Rattle.chamfer.specs.Scans.{Scanned};
 
 // A board of `w` columns and `h` rows, with the weights of a straight and of a slanted step.

@@ -5,7 +5,7 @@ ghost use Prim.Native.Nat.{_+_, _*_, _<_};
 ghost use mathlib.Core.Path.{_≡_};
 ghost use lib.ListN.{length};
 ghost use Rattle.rules.specs.Board.{cell, Bored};
-ghost use Rattle.rules.proofs.Refusals.{Somewhere};
+ghost use Rattle.rules.specs.Accepted.{Somewhere};
 ghost use Rattle.chamfer.specs.Neighbours.{Ruled, Words};
 ghost use Rattle.chamfer.specs.Scans.{Reached, Scan, Swept, first-word, Begun, forward-scan, backward-scan};
 

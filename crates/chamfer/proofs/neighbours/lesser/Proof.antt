@@ -2,6 +2,7 @@
 -- out are those of its neighbour, where there is one. Assumes nothing.
 use Prim.Native.Nat.{_≤_}
 use lib.IntN.{natAbs}
+use native.Mathlib.Omega.{arith}
 use borrow.Author.Needs.{needs}
 use Rattle.chamfer.specs.Neighbours.{On, Moved}
 use Rattle.chamfer.proofs.Moves.{as-read, known}
@@ -33,7 +34,7 @@ across : (c : tie.After-moved)
 across c = rw (as-read _ (steps-in (c .before .before) .1)) at (c .moved .ensures)
 
 returns : tie.Need-returns
-returns c = off-column (c .before .before .before .entry .ensures) _ _ (across (c .before)) (c .if1 .taken)
+returns c = off-column (c .before .before .before .entry .ensures) _ _ (across (c .before)) (omega arith)
 
 moved-requires-2 : tie.Need-moved-requires-2
 moved-requires-2 c κs =

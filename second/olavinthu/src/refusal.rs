@@ -1,0 +1,73 @@
+//! A refusal: its number, and a sentence that a person can act on.
+
+use std::fmt;
+
+/// Why a call was refused. A refused call has changed nothing.
+#[derive(Clone, Copy, Debug, PartialEq, Eq, Hash)]
+pub struct Refusal {
+    number: u32,
+}
+
+impl Refusal {
+    /// The number in the table of refusals.
+    pub fn number(self) -> u32 {
+        self.number
+    }
+
+    /// The answer of a C function: 0 is acceptance, every other number a refusal.
+    pub(crate) fn of(answer: u32) -> Result<(), Refusal> {
+        match answer {
+            0 => Ok(()),
+            number => Err(Refusal { number }),
+        }
+    }
+
+    fn sentence(self) -> &'static str {
+        match self.number {
+            1 => "the width or the height is 0 or above 512",
+            2 => "there is no such kind for this map",
+            3 => "the chamfer weights break 1 ≤ d1 ≤ 255, d1 ≤ d2 ≤ 2·d1",
+            4 => "a list has a length that does not fit the call",
+            5 => "a picture byte is neither 0 nor 1, or a cost is above 1,000,000 and not the mark",
+            6 => "no cell is bored, or every cost is the mark",
+            7 => "an end of the lane is not on the board",
+            8 => "the pitch or the radius is not a multiple of 1/64 mm from 1/64 mm to 64 mm",
+            9 => "the changeover's columns are not i < u ≤ 511, or a value is above 2,000,000",
+            // Only an archive of a later edition than this crate answers another number.
+            _ => "the archive knows the reason, this edition of the wrapper does not",
+        }
+    }
+}
+
+impl fmt::Display for Refusal {
+    fn fmt(&self, f: &mut fmt::Formatter) -> fmt::Result {
+        write!(f, "refused {}: {}", self.number, self.sentence())
+    }
+}
+
+impl std::error::Error for Refusal {}
+
+#[cfg(test)]
+mod tests {
+    use super::Refusal;
+
+    #[test]
+    fn acceptance_is_no_refusal() {
+        assert_eq!(Refusal::of(0), Ok(()));
+    }
+
+    #[test]
+    fn each_number_has_a_sentence_of_its_own() {
+        let sentences: Vec<_> = (1..=10).map(|number| Refusal { number }.sentence()).collect();
+        for (at, sentence) in sentences.iter().enumerate() {
+            assert!(!sentences[..at].contains(sentence), "{sentence}");
+        }
+    }
+
+    #[test]
+    fn a_refusal_shows_its_number() {
+        let refusal = Refusal::of(6).unwrap_err();
+        assert_eq!(refusal.number(), 6);
+        assert_eq!(refusal.to_string(), "refused 6: no cell is bored, or every cost is the mark");
+    }
+}

@@ -1,0 +1,78 @@
+//! The boards that maps and lanes are tried on, and how a board is drawn for a reader.
+
+use olavinthu::Board;
+use second::generator::Generator;
+use second::pictures;
+use second::rules::limits::SIDE;
+
+/// The largest board.
+pub const LARGEST: Board = Board { width: SIDE, height: SIDE };
+
+/// Every board with sides of at most `side`.
+pub fn up_to(side: u32) -> impl Iterator<Item = Board> {
+    (1..=side).flat_map(move |height| (1..=side).map(move |width| Board { width, height }))
+}
+
+/// Long boards of a few rows or columns.
+pub fn thin() -> impl Iterator<Item = Board> {
+    let sides = [(1, SIDE), (2, 300), (3, 200), (7, 64)];
+    let turned = sides.map(|(width, height)| (height, width));
+    let both = sides.into_iter().chain(turned);
+    both.map(|(width, height)| Board { width, height })
+}
+
+/// Boards with sides at the limits, and just outside them.
+pub fn around_the_limits() -> impl Iterator<Item = Board> {
+    let sides = [0, 1, SIDE, SIDE + 1];
+    let pairs = sides.into_iter().flat_map(move |width| sides.map(|height| (width, height)));
+    pairs.map(|(width, height)| Board { width, height })
+}
+
+/// Boards for calls that are damaged.
+pub fn to_damage() -> impl Iterator<Item = Board> {
+    let sides = [(1, 1), (2, 3), (9, 9), (1, SIDE), (SIDE, 1)];
+    sides.into_iter().map(|(width, height)| Board { width, height })
+}
+
+/// A board with random sides.
+pub fn random_board(least: u32, most: u32, generator: &mut Generator) -> Board {
+    let mut side = || least + generator.below(most - least + 1);
+    Board { width: side(), height: side() }
+}
+
+/// Every way to fill the cells of a small board with some values.
+pub fn every_filling<T: Copy>(board: Board, values: &[T]) -> impl Iterator<Item = Vec<T>> + '_ {
+    let cells = board.cells() as u32;
+    let choices = values.len();
+    // A filling is a number of as many digits as there are cells.
+    let digits = move |number| (0..cells).map(move |at| number / choices.pow(at) % choices);
+    (0..choices.pow(cells)).map(move |number| digits(number).map(|digit| values[digit]).collect())
+}
+
+/// A random picture of a random density, with one bore at least.
+pub fn random_picture(board: Board, generator: &mut Generator) -> Vec<u8> {
+    let many = generator.pick(&[2, 3, 5, 10, 30, 100]);
+    let mut picture = pictures::random(board, many, generator);
+    picture[generator.below(board.cells() as u32) as usize] = 1;
+    picture
+}
+
+/// The sides of a board and its cells, row by row.
+pub fn drawn<T>(board: Board, cells: &[T], cell: impl Fn(&T) -> String) -> String {
+    let width = (board.width as usize).max(1);
+    let rows = cells.chunks(width).map(|row| row.iter().map(&cell));
+    let lines: Vec<String> = rows.map(|row| row.collect()).collect();
+    let Board { width, height } = board;
+    let given = cells.len();
+    format!("board {width} by {height}, {given} cells given\n{}", lines.join("\n"))
+}
+
+/// A board with its picture: `#` bored, `.` sound, `?` neither.
+pub fn drawn_picture(board: Board, picture: &[u8]) -> String {
+    let cell = |byte: &u8| match byte {
+        0 => ".",
+        1 => "#",
+        _ => "?",
+    };
+    drawn(board, picture, |byte| cell(byte).to_string())
+}

@@ -1,0 +1,158 @@
+//! Cost maps.
+
+use crate::boards::{self, LARGEST};
+use crate::damage::{self, put, Damage};
+use crate::map_case::{Asked, MapCase};
+use crate::run::Run;
+use olavinthu::{Board, Buffers, Refusal, MARK};
+use second::generator::Generator;
+use second::rules::limits::COST;
+use second::rules::{CostCall, CostKind};
+
+impl Asked for CostCall {
+    const NAME: &'static str = "cost map";
+
+    fn ask(&self, buffers: Buffers) -> Result<(), Refusal> {
+        olavinthu::cost_map(self.board, self.asked.0, &self.picture, buffers)
+    }
+
+    fn drawn(&self) -> String {
+        let cell = |&cost: &u32| match cost {
+            MARK => " -".to_string(),
+            cost => format!(" {cost}"),
+        };
+        let board = boards::drawn(self.board, &self.picture, cell);
+        format!("kind {}, {:?}, {board}", self.asked.0, self.lent)
+    }
+}
+
+pub fn compare(run: &mut Run) {
+    small_boards(run);
+    thin_boards(run);
+    large_boards(run);
+    sides(run);
+    damaged(run);
+}
+
+/// One cost of a style.
+fn cost(style: u32, reach: u32, generator: &mut Generator) -> u32 {
+    match style {
+        // all equal
+        0 => reach,
+        1 => 0,
+        2 => COST,
+        // few values, many ties
+        3 => generator.below(3),
+        4 => generator.pick(&[0, COST]),
+        // differing about as much as distances do, so that many cells win somewhere
+        5 => generator.below(reach + 1),
+        6 => generator.below(reach + 1).pow(2).min(COST),
+        7 => COST - generator.below(reach + 1),
+        // anything
+        _ => generator.below(COST + 1),
+    }
+}
+
+/// How many styles there are.
+const STYLES: u32 = 9;
+
+/// How many cells there are to one that is unmarked: all unmarked, some, all but one marked.
+const MARKED: [u32; 4] = [1, 2, 6, u32::MAX];
+
+/// A cost picture of one style, with at least one cell unmarked.
+fn styled(board: Board, style: u32, marked: u32, generator: &mut Generator) -> Vec<u32> {
+    let reach = generator.below(board.width + board.height);
+    let always = generator.below(board.cells() as u32);
+    let unmarked = |cell, generator: &mut Generator| cell == always || generator.once_in(marked);
+    (0..board.cells() as u32)
+        .map(|cell| match unmarked(cell, generator) {
+            true => cost(style, reach, generator),
+            false => MARK,
+        })
+        .collect()
+}
+
+/// Holds the maps of both kinds of one cost picture.
+fn both_kinds(run: &mut Run, group: &'static str, board: Board, costs: &[u32]) {
+    for kind in [0, 1].map(CostKind) {
+        let call = CostCall::new(board, costs.to_vec(), kind);
+        let case = MapCase::whole(call, &mut run.generator);
+        run.hold(group, &case);
+    }
+}
+
+/// Holds cost pictures of every style on one board.
+fn every_style(run: &mut Run, group: &'static str, board: Board) {
+    for style in 0..STYLES {
+        for marked in MARKED {
+            let costs = styled(board, style, marked, &mut run.generator);
+            both_kinds(run, group, board, &costs);
+        }
+    }
+}
+
+fn small_boards(run: &mut Run) {
+    let values = [0, 1, 3, MARK];
+    for board in boards::up_to(6).filter(|board| board.cells() <= 6) {
+        for costs in boards::every_filling(board, &values) {
+            both_kinds(run, "every 0, 1, 3 or mark in 6 cells", board, &costs);
+        }
+    }
+    for board in boards::up_to(9) {
+        every_style(run, "up to 9 by 9", board);
+    }
+    for _ in 0..10 {
+        let board = boards::random_board(1, 24, &mut run.generator);
+        every_style(run, "up to 24 by 24", board);
+    }
+}
+
+fn thin_boards(run: &mut Run) {
+    for board in boards::thin() {
+        every_style(run, "long and thin", board);
+    }
+}
+
+fn large_boards(run: &mut Run) {
+    for (style, marked) in [(5, u32::MAX), (6, 60_000), (8, 20_000)] {
+        let costs = styled(LARGEST, style, marked, &mut run.generator);
+        both_kinds(run, "512 by 512, few costs", LARGEST, &costs);
+    }
+    for style in [3, 6, 8] {
+        let costs = styled(LARGEST, style, 1, &mut run.generator);
+        for kind in [0, 1].map(CostKind) {
+            let call = CostCall::new(LARGEST, costs.clone(), kind);
+            let case = MapCase::sampled(call, &mut run.generator);
+            run.hold("512 by 512, many costs, some cells", &case);
+        }
+    }
+}
+
+/// Sides at their limits and just outside them, with lists that fit.
+fn sides(run: &mut Run) {
+    for board in boards::around_the_limits() {
+        let mut costs = vec![MARK; board.cells()];
+        put(costs.first_mut(), 7);
+        both_kinds(run, "sides around their limits", board, &costs);
+    }
+}
+
+fn damaged(run: &mut Run) {
+    let own: &[Damage<u32, CostKind>] = &[
+        |_, call| call.asked.0 = 2,
+        |_, call| call.asked.0 = u32::MAX,
+        |_, call| put(call.picture.first_mut(), COST + 1),
+        |_, call| put(call.picture.last_mut(), MARK - 1),
+        |_, call| call.picture.fill(MARK),
+    ];
+    let damages = [damage::on_board(), own.to_vec()].concat();
+    for board in boards::to_damage() {
+        for kind in [0, 1].map(CostKind) {
+            let costs = styled(board, 5, 2, &mut run.generator);
+            let sound = CostCall::new(board, costs, kind);
+            for call in damage::spoiled(&sound, &damages) {
+                run.hold("one damage or two", &MapCase::exact(call));
+            }
+        }
+    }
+}

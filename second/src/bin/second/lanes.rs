@@ -1,0 +1,170 @@
+//! Lanes.
+
+use crate::bare;
+use crate::boards::{self, LARGEST};
+use crate::damage::{self, Damage};
+use crate::lent::{roomy, rubbish, unchanged, Lent, Lists};
+use crate::run::{agreed, Call, Run};
+use olavinthu::{Board, Lane, MARK};
+use second::generator::Generator;
+use second::pictures;
+use second::rules::{BestLane, LaneAsked, LaneCall};
+
+/// The first words of a path: the lane's cells, and then marks up to the number of cells.
+fn path_words(board: Board, lane: BestLane) -> Vec<u32> {
+    let mut words = lane.cells;
+    words.resize(board.cells(), MARK);
+    words
+}
+
+impl Call for LaneCall {
+    fn name(&self) -> &'static str {
+        "lane"
+    }
+
+    fn compare(&self, generator: &mut Generator) -> Result<u32, String> {
+        let LaneAsked { from, to, path } = self.asked;
+        let before = self.picture.clone();
+        let mut lists = Lists::filled(self.lent, generator);
+        let mut path = Lent::filled(path, || rubbish(generator));
+        let (buffers, path_list) = (lists.buffers(), path.list_mut());
+        let answered = olavinthu::lane(self.board, &self.picture, from, to, buffers, path_list);
+        unchanged("picture", &before, &self.picture)?;
+        match self.answer() {
+            Ok((map, lane)) => {
+                let (width, cells) = (lane.width, lane.cells.len() as u32);
+                agreed(answered, Ok(Lane { width, cells }))?;
+                lists.hold(self.board, &map)?;
+                path.holds("path", &path_words(self.board, lane))?;
+                Ok(0)
+            }
+            Err(number) => {
+                agreed(answered, Err(number))?;
+                bare::silent_lane(self, lists.buffers(), path.list_mut(), generator)?;
+                lists.untouched()?;
+                path.untouched("path")?;
+                Ok(number)
+            }
+        }
+    }
+
+    fn drawn(&self) -> String {
+        let board = boards::drawn_picture(self.board, &self.picture);
+        format!("{:?}, {:?}, {board}", self.asked, self.lent)
+    }
+}
+
+pub fn compare(run: &mut Run) {
+    small_pictures(run);
+    small_boards(run);
+    mazes(run);
+    thin_boards(run);
+    large_boards(run);
+    sides(run);
+    damaged(run);
+}
+
+/// Holds the lane between two cells, with some words more than the least in the lists.
+fn hold(run: &mut Run, group: &'static str, board: Board, picture: &[u8], ends: [u32; 2]) {
+    let [from, to] = ends;
+    let mut call = LaneCall::between(board, picture.to_vec(), from, to);
+    call.lent = roomy(board, &mut run.generator);
+    call.asked.path += run.generator.below(4) as usize;
+    run.hold(group, &call);
+}
+
+/// Two random cells; now and then twice the same one.
+fn random_ends(board: Board, generator: &mut Generator) -> [u32; 2] {
+    let cells = board.cells() as u32;
+    let from = generator.below(cells);
+    let to = match generator.once_in(16) {
+        true => from,
+        false => generator.below(cells),
+    };
+    [from, to]
+}
+
+fn between_random_cells(run: &mut Run, group: &'static str, board: Board, picture: &[u8]) {
+    let ends = random_ends(board, &mut run.generator);
+    hold(run, group, board, picture, ends);
+}
+
+fn small_pictures(run: &mut Run) {
+    for board in boards::up_to(8).filter(|board| board.cells() <= 8) {
+        let cells = board.cells() as u32;
+        for picture in boards::every_filling(board, &[0, 1]) {
+            for ends in (0..cells * cells).map(|pair| [pair / cells, pair % cells]) {
+                hold(run, "every picture of at most 8 cells", board, &picture, ends);
+            }
+        }
+    }
+}
+
+fn small_boards(run: &mut Run) {
+    for board in boards::up_to(9) {
+        for picture in pictures::drawn(board) {
+            for _ in 0..4 {
+                between_random_cells(run, "up to 9 by 9, drawn", board, &picture);
+            }
+        }
+        for _ in 0..60 {
+            let picture = boards::random_picture(board, &mut run.generator);
+            between_random_cells(run, "up to 9 by 9, random", board, &picture);
+        }
+    }
+}
+
+fn mazes(run: &mut Run) {
+    for side in [3, 5, 9, 15, 31] {
+        for _ in 0..60 {
+            let board = boards::random_board(2, side, &mut run.generator);
+            let picture = pictures::maze(board, &mut run.generator);
+            between_random_cells(run, "mazes", board, &picture);
+        }
+    }
+}
+
+fn thin_boards(run: &mut Run) {
+    for board in boards::thin() {
+        for _ in 0..10 {
+            let picture = boards::random_picture(board, &mut run.generator);
+            between_random_cells(run, "long and thin", board, &picture);
+        }
+    }
+}
+
+fn large_boards(run: &mut Run) {
+    for count in [1, 3, 12, 25] {
+        let picture = pictures::few(LARGEST, count, &mut run.generator);
+        between_random_cells(run, "512 by 512", LARGEST, &picture);
+    }
+}
+
+/// Sides at their limits and just outside them, with lists that fit.
+fn sides(run: &mut Run) {
+    for board in boards::around_the_limits() {
+        let picture = pictures::bored_where(board, |x, y| x + y == 0);
+        let last = (board.cells() as u32).saturating_sub(1);
+        hold(run, "sides around their limits", board, &picture, [0, last]);
+    }
+}
+
+fn damaged(run: &mut Run) {
+    let own: &[Damage<u8, LaneAsked>] = &[
+        |least, call| call.asked.path = least.distances - 1,
+        |_, call| call.asked.path = 0,
+        |least, call| call.asked.from = least.distances as u32,
+        |least, call| call.asked.to = least.distances as u32,
+        |_, call| call.asked.from = u32::MAX,
+        |_, call| call.asked.to = u32::MAX,
+    ];
+    let damages = [damage::on_board(), damage::of_bytes(), own.to_vec()].concat();
+    for board in boards::to_damage() {
+        let picture = pictures::few(board, 2, &mut run.generator);
+        let [from, to] = random_ends(board, &mut run.generator);
+        let sound = LaneCall::between(board, picture, from, to);
+        for call in damage::spoiled(&sound, &damages) {
+            run.hold("one damage or two", &call);
+        }
+    }
+}

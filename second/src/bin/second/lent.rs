@@ -1,0 +1,130 @@
+//! Lists lent to a call: full of rubbish, with a margin on both sides that is not lent.
+
+use olavinthu::{Board, Buffers};
+use second::generator::Generator;
+use second::rules::{Lengths, Map};
+use std::fmt::Display;
+
+/// How many elements before and after a list are watched besides it.
+const MARGIN: usize = 4;
+
+/// A list of its own, what it holds now and what it held before the call.
+pub struct Lent<T> {
+    now: Vec<T>,
+    before: Vec<T>,
+}
+
+impl<T: Copy + PartialEq + Display> Lent<T> {
+    pub fn filled(length: usize, mut rubbish: impl FnMut() -> T) -> Lent<T> {
+        let now: Vec<T> = (0..length + 2 * MARGIN).map(|_| rubbish()).collect();
+        let before = now.clone();
+        Lent { now, before }
+    }
+
+    pub fn list(&self) -> &[T] {
+        &self.now[MARGIN..self.now.len() - MARGIN]
+    }
+
+    pub fn list_mut(&mut self) -> &mut [T] {
+        let end = self.now.len() - MARGIN;
+        &mut self.now[MARGIN..end]
+    }
+
+    /// The list must begin with these elements, and all others must be as they were.
+    pub fn holds(&self, name: &str, first: &[T]) -> Result<(), String> {
+        let written = MARGIN..MARGIN + first.len();
+        let mut expected = self.before.clone();
+        expected[written].copy_from_slice(first);
+        match (0..expected.len()).find(|&at| self.now[at] != expected[at]) {
+            None => Ok(()),
+            Some(at) => Err(format!(
+                "{name}[{}] is {}, not {}",
+                at as isize - MARGIN as isize,
+                self.now[at],
+                expected[at]
+            )),
+        }
+    }
+
+    /// Every element must be as it was.
+    pub fn untouched(&self, name: &str) -> Result<(), String> {
+        self.holds(name, &[])
+    }
+}
+
+/// A list that a call may only read must be as it was.
+pub fn unchanged<T: PartialEq>(name: &str, before: &[T], now: &[T]) -> Result<(), String> {
+    match before == now {
+        true => Ok(()),
+        false => Err(format!("{name} has changed")),
+    }
+}
+
+/// A word of rubbish. Half of them are small: a program that trusts what it finds in a buffer is
+/// rather caught by a number that could be a column, a row or a distance.
+pub fn rubbish(generator: &mut Generator) -> u32 {
+    match generator.once_in(2) {
+        true => generator.below(16),
+        false => generator.word(),
+    }
+}
+
+/// The least lengths on a board and up to three words more in each list.
+pub fn roomy(board: Board, generator: &mut Generator) -> Lengths {
+    let least = Lengths::least(board);
+    let mut more = || generator.below(4) as usize;
+    Lengths {
+        distances: least.distances + more(),
+        sites: least.sites + more(),
+        scratch: least.scratch + more(),
+    }
+}
+
+/// The three lists of a map call.
+pub struct Lists {
+    distances: Lent<u32>,
+    sites: Lent<u32>,
+    scratch: Lent<u32>,
+}
+
+impl Lists {
+    pub fn filled(lengths: Lengths, generator: &mut Generator) -> Lists {
+        let mut list = |length| Lent::filled(length, || rubbish(generator));
+        Lists {
+            distances: list(lengths.distances),
+            sites: list(lengths.sites),
+            scratch: list(lengths.scratch),
+        }
+    }
+
+    pub fn buffers(&mut self) -> Buffers<'_> {
+        Buffers {
+            distances: self.distances.list_mut(),
+            sites: self.sites.list_mut(),
+            scratch: self.scratch.list_mut(),
+        }
+    }
+
+    /// The map that the lists hold now.
+    pub fn map(&self, board: Board) -> Map {
+        Map {
+            distances: self.distances.list()[..board.cells()].to_vec(),
+            sites: self.sites.list()[..board.cells()].to_vec(),
+        }
+    }
+
+    /// The lists must hold this map and a scratch of zeros, and nothing else may have changed.
+    pub fn hold(&self, board: Board, map: &Map) -> Result<(), String> {
+        self.distances.holds("distances", &map.distances)?;
+        self.sites.holds("sites", &map.sites)?;
+        let zeros = vec![0; board.scratch_words()];
+        self.scratch.holds("scratch", &zeros)
+    }
+
+    /// Every word must be as it was.
+    pub fn untouched(&self) -> Result<(), String> {
+        self.distances.untouched("distances")?;
+        self.sites.untouched("sites")?;
+        self.scratch.untouched("scratch")
+    }
+}

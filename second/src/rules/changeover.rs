@@ -1,0 +1,73 @@
+//! The changeover: the floor of (u² − i² + b − a) / (2(u − i)).
+
+use super::limits::{COLUMN, VALUE};
+use super::refusals::tested;
+
+/// All that decides a changeover.
+#[derive(Clone, Copy)]
+pub struct ChangeoverCall {
+    pub i: u32,
+    pub u: u32,
+    pub a: u32,
+    pub b: u32,
+}
+
+impl ChangeoverCall {
+    pub fn refusal(&self) -> Result<(), u32> {
+        let over = self.a > VALUE || self.b > VALUE;
+        tested(&[(9, self.i >= self.u || self.u > COLUMN || over)])
+    }
+
+    pub fn answer(&self) -> Result<i128, u32> {
+        self.refusal()?;
+        let [i, u, a, b] = [self.i, self.u, self.a, self.b].map(i128::from);
+        // The divisor is positive, so the Euclidean quotient is the floor.
+        Ok((u * u - i * i + b - a).div_euclid(2 * (u - i)))
+    }
+}
+
+#[cfg(test)]
+mod tests {
+    use super::*;
+    use crate::generator::Generator;
+
+    fn asked(i: u32, u: u32, a: u32, b: u32) -> Result<i128, u32> {
+        ChangeoverCall { i, u, a, b }.answer()
+    }
+
+    #[test]
+    fn the_samples() {
+        assert_eq!(asked(0, 1, 2_000_000, 0), Ok(-1_000_000));
+        assert_eq!(asked(510, 511, 0, 2_000_000), Ok(1_000_510));
+    }
+
+    #[test]
+    fn a_negative_numerator_goes_down() {
+        // (1 − 0 + 0 − 2) / 2 is −1/2: not 0 but −1.
+        assert_eq!(asked(0, 1, 2, 0), Ok(-1));
+    }
+
+    #[test]
+    fn what_is_refused() {
+        assert_eq!(asked(5, 5, 0, 0), Err(9));
+        assert_eq!(asked(6, 5, 0, 0), Err(9));
+        assert_eq!(asked(0, 512, 0, 0), Err(9));
+        assert_eq!(asked(0, 1, 2_000_001, 0), Err(9));
+        assert_eq!(asked(0, 1, 0, 2_000_001), Err(9));
+    }
+
+    /// "The greatest whole p with (p − i)² + a ≤ (p − u)² + b."
+    #[test]
+    fn the_floor_is_the_greatest_that_holds() {
+        let mut generator = Generator::new(1);
+        for _ in 0..10_000 {
+            let i = generator.below(COLUMN);
+            let u = i + 1 + generator.below(COLUMN - i);
+            let (a, b) = (generator.below(VALUE + 1), generator.below(VALUE + 1));
+            let p = asked(i, u, a, b).unwrap();
+            let [i, u, a, b] = [i, u, a, b].map(i128::from);
+            let holds = |p: i128| (p - i) * (p - i) + a <= (p - u) * (p - u) + b;
+            assert!(holds(p) && !holds(p + 1));
+        }
+    }
+}

@@ -1,0 +1,20 @@
+//! The limits of document 01, each in one place.
+
+/// The longest side of a board.
+pub const SIDE: u32 = 512;
+/// The greatest kind of a picture map.
+pub const KIND: u32 = 3;
+/// The greatest kind of a cost map.
+pub const COST_KIND: u32 = 1;
+/// The greatest weight d1.
+pub const WEIGHT: u32 = 255;
+/// The greatest cost.
+pub const COST: u32 = 1_000_000;
+/// The greatest whole number that a setting's value opens to.
+pub const KNOB: u32 = 4_096;
+/// The longest clear map.
+pub const CLEAR: usize = 262_144;
+/// The last column that a changeover may be asked of.
+pub const COLUMN: u32 = 511;
+/// The greatest value that a changeover may be asked with.
+pub const VALUE: u32 = 2_000_000;

@@ -1,6 +1,7 @@
 // The C functions of the static library. Each passes on to the entry that it wraps and has the same promise, by the same
 // record of the rules; where the entry answers an enum, the C function answers its number and writes its values, and a
 // refusal writes nothing. `include/olavinthu.h` declares them.
+use costs::cost_map;
 use envelope::changeover;
 use knob::clear_map;
 use knob::open;
@@ -8,7 +9,7 @@ use maps::picture_map;
 use rules::ChangeoverAnswer;
 use rules::OpeningAnswer;
 use rules::Setting;
-ghost use Rattle.rules.specs.Calls.{buffers, PictureCall, ChangeoverCall, OpeningCall, ClearCall};
+ghost use Rattle.rules.specs.Calls.{buffers, PictureCall, CostCall, ChangeoverCall, OpeningCall, ClearCall};
 ghost use Rattle.node.specs.Out.{Out};
 
 // The map of a picture.
@@ -29,6 +30,24 @@ pub extern "C" fn olv_map(
         r (buffers (now (distances .exit)) (now (sites .exit)) (now (scratch .exit))) ⌝ }
 {
     picture_map(w, h, kind, d1, d2, picture, distances, sites, scratch)
+}
+
+// The map of a cost picture.
+#[no_mangle]
+pub extern "C" fn olv_cost_map(
+    w: u32,
+    h: u32,
+    kind: u32,
+    costs: &[u32],
+    distances: &mut [u32],
+    sites: &mut [u32],
+    scratch: &mut [u32],
+) -> u32
+    ensures { λ r. ⌜ CostCall w h kind (now (costs .entry))
+        (buffers (now (distances .entry)) (now (sites .entry)) (now (scratch .entry)))
+        r (buffers (now (distances .exit)) (now (sites .exit)) (now (scratch .exit))) ⌝ }
+{
+    cost_map(w, h, kind, costs, distances, sites, scratch)
 }
 
 // The changeover: its number, and p where it is 0.

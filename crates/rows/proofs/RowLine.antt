@@ -40,13 +40,13 @@ square-small : {n : ℕ} → n < side-limit → n * n < side-limit * side-limit
 square-small h = let m = mul-le-mul (le-pred-of-lt h) (le-pred-of-lt h) in omega (arith, m)
 
 -- small differences lift to small values
-lift-small : (kind : ℕ) {dy : ℕ} → dy < side-limit → measure kind .lift dy < side-limit * side-limit
+pub lift-small : (kind : ℕ) {dy : ℕ} → dy < side-limit → measure kind .lift dy < side-limit * side-limit
 lift-small zero h = square-small h
 lift-small (suc zero) h = omega arith
 lift-small (suc (suc k)) h = omega arith
 
 -- and combine to values that are not much greater
-combine-small : (kind v : ℕ) {dx : ℕ} → dx < side-limit → measure kind .combine dx v < side-limit * side-limit + (v + 1)
+pub combine-small : (kind v : ℕ) {dx : ℕ} → dx < side-limit → measure kind .combine dx v < side-limit * side-limit + (v + 1)
 combine-small zero v h = omega (arith, square-small h)
 combine-small (suc zero) v h = omega arith
 combine-small (suc (suc k)) v h = omega arith

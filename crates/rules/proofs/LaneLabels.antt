@@ -114,17 +114,13 @@ module _ {w h : ℕ} {word : ℕ → ℕ} {v to : ℕ} {label : ℕ → ℕ} (f 
       first (p ∷ ps) (p-is, p-in, on) o-wide e (inr (same, b)) =
           none-before from ps rest l (rw p-is at on) (wide, wide-iff word v p ps .0 o-wide .1) d (omega arith) b
 
--- the walk down the labels of a flood at v is the best lane, and its width is v, if a flood at v + 1 leaves its first
--- cell with no label
-pub best-by-labels : {w h : ℕ} {word : ℕ → ℕ} {v to : ℕ} {label label′ : ℕ → ℕ} → Flooded w h word v to label
-    → Flooded w h word (v + 1) to label′ → (from : ℕ) (rest : List ℕ) → from < w * h → v ≤ word from
-    → label′ from ≡ 0 → Descends w h word v to label from rest
+-- the walk down the labels of a flood at v is the best lane, and its width is v, if no lane is wider
+pub best-by-widest : {w h : ℕ} {word : ℕ → ℕ} {v to : ℕ} {label : ℕ → ℕ} → Flooded w h word v to label
+    → (from : ℕ) (rest : List ℕ) → from < w * h → v ≤ word from
+    → ((other : List ℕ) → Lane w h from to other → width word other ≤ v) → Descends w h word v to label from rest
     → Best w h word from to (from ∷ rest) × (width word (from ∷ rest) ≡ v)
-best-by-labels {w} {h} {word} {v} {to} f f′ from rest l wide e d =
+best-by-widest {w} {h} {word} {v} {to} f from rest l wide at-most d =
     let (lane, as-wide, long, first) = first-by-labels f from rest l wide d in
-    let at-most : (o : List ℕ) → Lane w h from to o → width word o ≤ v =
-    λ o o-lane. by-cases (decLe (v + 1) (width word o)) (λ m. absurd (none-as-wide f′ from e o o-lane m))
-    (λ m. omega arith) in
     let is : width word (from ∷ rest) ≡ v = omega (arith, at-most (from ∷ rest) lane) in (
       record {
         lane = lane;
@@ -134,3 +130,15 @@ best-by-labels {w} {h} {word} {v} {to} f f′ from rest l wide e d =
       },
       is,
     )
+
+-- so it is if a flood at v + 1 leaves its first cell with no label
+pub best-by-labels : {w h : ℕ} {word : ℕ → ℕ} {v to : ℕ} {label label′ : ℕ → ℕ} → Flooded w h word v to label
+    → Flooded w h word (v + 1) to label′ → (from : ℕ) (rest : List ℕ) → from < w * h → v ≤ word from
+    → label′ from ≡ 0 → Descends w h word v to label from rest
+    → Best w h word from to (from ∷ rest) × (width word (from ∷ rest) ≡ v)
+best-by-labels {w} {h} {word} {v} {to} f f′ from rest l wide e d =
+    best-by-widest f from rest l wide at-most d
+  where
+    at-most : (o : List ℕ) → Lane w h from to o → width word o ≤ v
+    at-most o o-lane =
+        by-cases (decLe (v + 1) (width word o)) (λ m. absurd (none-as-wide f′ from e o o-lane m)) (λ m. omega arith)

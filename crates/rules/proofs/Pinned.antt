@@ -223,7 +223,7 @@ changeover-answer-pinned NoChangeover (At p) c e = absurd (omega (arith, changeo
 changeover-answer-pinned NoChangeover NoChangeover c e = refl
 
 -- a lane that was found has a cell
-cells-not-zero : {w h : ℕ} {picture : List ℕ} {from to : ℕ} {before after : Buffers} {path exit : List ℕ} {broad : ℕ}
+pub cells-not-zero : {w h : ℕ} {picture : List ℕ} {from to : ℕ} {before after : Buffers} {path exit : List ℕ} {broad : ℕ}
     → LaneLeft w h picture from to before path broad 0 after exit → ⊥
 unfolding Lane
 cells-not-zero l = l .best .lane

@@ -1,0 +1,4 @@
+pub mod Putting
+pub mod ColumnLine
+pub mod RowLine
+pub mod Entry

@@ -1,0 +1,59 @@
+-- What is asked of a cost picture that has passed the tests, and what each part of the map leaves. Assumes nothing.
+use mathlib.Core.Path.{_≡_}
+use mathlib.Core.Logic.{_≢_}
+use mathlib.Core.List.{List}
+use Prim.Native.Nat.{ℕ, _*_, _≤_, _<_}
+use lib.ListN.{length, getD}
+use Rattle.rules.specs.Limits.{cost-limit}
+use Rattle.rules.specs.Board.{Sides, cell, cost-at, Unmarked}
+use Rattle.rules.specs.Refusals.{scratch-words}
+use Rattle.rules.specs.Tie.{CostMapWord, CostMapSite}
+use Rattle.rules.specs.Columns.{ColumnWord}
+use Rattle.rules.proofs.Columns.{cost-rank}
+
+-- a cost picture that has passed the tests: a board of a kind that costs have, each cell with a cost or the mark, and
+-- one at least with a cost
+pub record Passed (kind w h : ℕ) (costs : List ℕ) : Type 0 where
+  pub kind-in : kind < 2
+  pub sides : Sides w h
+  pub cells : length costs ≡ w * h
+  pub costs-to : (i j : ℕ) → i < w → j < h → Unmarked w costs i j → cost-at w costs i j ≤ cost-limit
+  pub i₀ : ℕ
+  pub j₀ : ℕ
+  pub column-in : i₀ < w
+  pub row-in : j₀ < h
+  pub unmarked : Unmarked w costs i₀ j₀
+
+-- column i has its words
+abbrev pub ColumnLeft : ℕ → ℕ → ℕ → List ℕ → List ℕ → ℕ → Type 0
+ColumnLeft kind w h costs words i =
+    (y : ℕ) → y < h → ColumnWord h (Unmarked w costs i) (cost-rank kind w costs y i) (getD words (cell w i y) 0)
+
+-- the columns below x have their words
+abbrev pub ColumnsLeft : ℕ → ℕ → ℕ → List ℕ → List ℕ → ℕ → Type 0
+ColumnsLeft kind w h costs words x = (i : ℕ) → i < x → ColumnLeft kind w h costs words i
+
+-- one column more has its words, and no other column's is changed
+pub record ColumnMore (kind w h x : ℕ) (costs before after : List ℕ) : Type 0 where
+  pub made : ColumnLeft kind w h costs after x
+  pub others : (i y : ℕ) → i < w → y < h → i ≢ x → getD after (cell w i y) 0 ≡ getD before (cell w i y) 0
+
+-- row y has its map words and its sites
+pub record RowLeft (kind w h : ℕ) (costs : List ℕ) (y : ℕ) (word site : ℕ → ℕ) : Type 0 where
+  pub words : (x : ℕ) → x < w → CostMapWord kind w h costs x y (word x)
+  pub names : (x : ℕ) → x < w → CostMapSite kind w h costs x y (site x)
+
+-- the rows above y have theirs
+abbrev pub RowsLeft : ℕ → ℕ → ℕ → List ℕ → List ℕ → List ℕ → ℕ → Type 0
+RowsLeft kind w h costs distances sites y =
+    (j : ℕ) → j < y → RowLeft kind w h costs j (λ x. getD distances (cell w x j) 0) (λ x. getD sites (cell w x j) 0)
+
+-- row y made in two lists of its own, and no column word changed
+pub record RowMore (kind w h y : ℕ) (costs before after distances sites : List ℕ) : Type 0 where
+  pub made : RowLeft kind w h costs y (λ x. getD distances x 0) (λ x. getD sites x 0)
+  pub kept : (k : ℕ) → k < w * h → getD after k 0 ≡ getD before k 0
+
+-- the whole map, and the scratch all zero
+pub record Made (kind w h : ℕ) (costs distances sites scratch : List ℕ) : Type 0 where
+  pub rows : RowsLeft kind w h costs distances sites h
+  pub zeroed : (k : ℕ) → k < scratch-words w h → getD scratch k 0 ≡ 0

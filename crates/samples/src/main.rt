@@ -1,0 +1,70 @@
+// The sample boards of document 01 through the public entries, a line for each. The samples of costs, of lanes and of
+// the bench file wait for their entries.
+use boards::board;
+use boards::chamfer_board;
+use boards::show_003;
+use boards::show_answer;
+use boards::show_cell;
+use boards::show_largest;
+use changeovers::show_changeover;
+use knobs::show_clear;
+use knobs::show_value;
+use rules::SIDE;
+
+mod boards;
+mod changeovers;
+mod knobs;
+mod text;
+
+// The cell that the paper names, of boards with a few bores.
+fn cells() {
+    show_cell(b"1 by 1, bored", board(1, 1, 0), &[1], 0);
+    show_cell(b"3 by 1, bores 0 and 2", board(3, 1, 0), &[1, 0, 1], 1);
+    show_cell(b"1 by 3, bores 0 and 2", board(1, 3, 0), &[1, 0, 1], 1);
+    let right = [0, 0, 1, 0, 0, 1];
+    show_cell(b"kind 2, 3 by 2, bores 2 and 5", board(3, 2, 2), &right, 3);
+    let square = [0, 0, 0, 1, 0, 0, 0, 0, 0, 0, 1, 0, 1, 0, 0, 0];
+    show_cell(b"4 by 4, bores 3, 10 and 12", board(4, 4, 0), &square, 0);
+    let mut wide = [0; 112];
+    wide[27] = 1;
+    wide[82] = 1;
+    wide[109] = 1;
+    show_cell(b"14 by 8, bores 27, 82 and 109", board(14, 8, 0), &wide, 0);
+}
+
+// Boards that have nothing wrong with them but a side.
+fn sides() {
+    let bored = [1; 513];
+    show_answer(b"513 by 1", board(SIDE + 1, 1, 0), &bored);
+    show_answer(b"1 by 513", board(1, SIDE + 1, 0), &bored);
+}
+
+// Weights, on a board of one bored cell. Kind 0 reads none.
+fn weights() {
+    show_answer(b"weights 3 and 6", chamfer_board(1, 1, 3, 6), &[1]);
+    show_answer(b"weights 3 and 7", chamfer_board(1, 1, 3, 7), &[1]);
+    show_answer(b"weights 0 and 0", chamfer_board(1, 1, 0, 0), &[1]);
+    show_answer(b"weights 0 and 0, kind 0", board(1, 1, 0), &[1]);
+}
+
+// Values of a setting, each by itself.
+fn values() {
+    show_value(b"0.015625", 0.015625);
+    show_value(b"64.0", 64.0);
+    show_value(b"64.015625", 64.015625);
+    show_value(b"0.01", 0.01);
+    show_value(b"0.0", 0.0);
+    show_value(b"-1.0", -1.0);
+}
+
+fn main() {
+    cells();
+    show_003();
+    show_largest();
+    sides();
+    weights();
+    show_changeover(0, 1, 2_000_000, 0);
+    show_changeover(510, 511, 0, 2_000_000);
+    values();
+    show_clear();
+}

@@ -1,4 +1,4 @@
--- What the two scans do to the words of a board. No scan takes a word below the closed form to every bore, and each
+-- What the two scans do to the words of a board. No scan takes a word below the least closed form to a bore, and each
 -- brings the words of the bores to more cells: at first a bore's word stands in the bore alone; the forward scan brings
 -- it wherever a least walk goes by forward steps alone, the backward scan to every cell. Assumes nothing.
 use mathlib.Core.Path.{_≡_}
@@ -41,7 +41,7 @@ Come zero i j x y = (x ≡ i) × (y ≡ j)
 Come (suc zero) i j x y = (j ≤ y) × (i + j ≤ x + y)
 Come (suc (suc n)) i j x y = Unit {0}
 
--- the words after so many scans: none below the closed form to every bore, and none above the closed form to a bore
+-- the words after so many scans: none below the least closed form to a bore, and none above the closed form to a bore
 -- whose word has come
 pub record Reached (b : Board) (picture words : List ℕ) (scans : ℕ) : Type 0 where
   pub never-less : (x y : ℕ) → On b x y → Held b picture x y (word b words x y)

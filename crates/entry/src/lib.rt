@@ -1,5 +1,5 @@
-// What every entry tests first: the rows of document 01's table that several entries share. Each function answers whether
-// its row holds.
+// What the entries on boards test first: the rows of document 01's table that a board can break. Each function answers
+// whether its row holds.
 use rules::SIDE;
 use rules::WEIGHT;
 ghost use Prim.Native.Nat.{_*_, _≤_};

@@ -61,7 +61,8 @@ pub fn height(g: Gauge, values: &[u64], i: usize, x: usize) -> u64
     combined(g, apart(x, i), values[i])
 }
 
-// The last place that column i holds, for kind 1: the middle, or the line's end where i holds everywhere.
+// The last place that column i holds, for kind 1: half of i + u + b − a, or a place past the
+// line's end where i holds everywhere.
 fn last_manhattan(n: usize, i: usize, u: usize, a: u64, b: u64) -> u64
     requires { ⌜ Pair n i u a b × HoldsAt (measure 1) i u a b 0 ⌝ }
     ensures { λ r. ⌜ (r ≤ line-limit + line-limit) × Last (measure 1) n i u a b r ⌝ }

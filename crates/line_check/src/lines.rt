@@ -11,7 +11,7 @@ ghost use Rattle.envelope.specs.Line.{Line};
 const FACTOR: u64 = 48_271;
 // .. modulo this prime, 2^31 - 1.
 const MODULUS: u64 = 2_147_483_647;
-// What an empty column stands at: far above every small value.
+// A value that is far above every small one, as an empty column's is.
 const STAND_IN: u64 = 1 << 40;
 // Most lines are at most this long.
 const SHORT: u64 = 48;

@@ -5,11 +5,13 @@ use costs::cost_map;
 use envelope::changeover;
 use knob::clear_map;
 use knob::open;
+use lane::widest;
 use maps::picture_map;
 use rules::ChangeoverAnswer;
+use rules::LaneAnswer;
 use rules::OpeningAnswer;
 use rules::Setting;
-ghost use Rattle.rules.specs.Calls.{buffers, PictureCall, CostCall, ChangeoverCall, OpeningCall, ClearCall};
+ghost use Rattle.rules.specs.Calls.{buffers, PictureCall, CostCall, LaneCall, ChangeoverCall, OpeningCall, ClearCall};
 ghost use Rattle.node.specs.Out.{Out};
 
 // The map of a picture.
@@ -48,6 +50,40 @@ pub extern "C" fn olv_cost_map(
         r (buffers (now (distances .exit)) (now (sites .exit)) (now (scratch .exit))) ⌝ }
 {
     cost_map(w, h, kind, costs, distances, sites, scratch)
+}
+
+// The widest lane: its number, and its width and how many cells it has where that is 0.
+#[no_mangle]
+pub extern "C" fn olv_lane(
+    w: u32,
+    h: u32,
+    picture: &[u8],
+    from: u32,
+    to: u32,
+    distances: &mut [u32],
+    sites: &mut [u32],
+    scratch: &mut [u32],
+    path: &mut [u32],
+    width: &mut u32,
+    cells: &mut u32,
+) -> u32
+    ensures { λ r. ⌜ LaneCall w h (now (picture .entry)) from to
+        (buffers (now (distances .entry)) (now (sites .entry)) (now (scratch .entry))) (now (path .entry))
+        r (now (width .exit)) (now (cells .exit))
+        (buffers (now (distances .exit)) (now (sites .exit)) (now (scratch .exit))) (now (path .exit))
+        × Out r (now (width .entry)) (now (width .exit)) × Out r (now (cells .entry)) (now (cells .exit)) ⌝ }
+{
+    match widest(w, h, picture, from, to, distances, sites, scratch, path) {
+        LaneAnswer::Refused(number) => number,
+        LaneAnswer::Found {
+            width: broad,
+            cells: count,
+        } => {
+            *width = broad;
+            *cells = count;
+            0
+        }
+    }
 }
 
 // The changeover: its number, and p where it is 0.

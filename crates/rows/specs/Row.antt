@@ -24,7 +24,7 @@ value-of g y word = cond (eqb word mark) line-limit (measured g .lift (away y wo
 pub record Filled (g : Gauge) (y : ℕ) (words values : List ℕ) : Type 0 where
   pub each : (i : ℕ) → i < length words → getD values i 0 ≡ value-of g y (getD words i 0)
 
--- each place of the line has its winner, whose word names a row and whose height is a u32 word
+-- each place of the line has a column of it in `winners`, whose word names a row and whose height is a u32 word
 pub record Chosen (g : Gauge) (words values winners : List ℕ) : Type 0 where
   pub column-in : (x : ℕ) → x < length values → getD winners x 0 < length values
   pub named : (x : ℕ) → x < length values → getD words (getD winners x 0) 0 < side-limit

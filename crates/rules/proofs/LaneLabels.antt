@@ -11,8 +11,8 @@
 -- many cells are left to both; and no less, or the cell before would have a lesser label too. So that cell was among
 -- those of which the walk took the least, and the other lane does not come before the walk (`first-by-labels`).
 --
--- If a flood at v + 1 leaves the near end with no label, no lane is wider than v, and the walk is the best lane
--- (`best-by-labels`).
+-- If no lane is wider than v, the walk is the best lane (`best-by-widest`). None is, if a flood at v + 1 leaves the near
+-- end with no label (`best-by-labels`).
 --
 -- Assumes nothing.
 use mathlib.Core.Path.{_≡_, refl, sym}

@@ -104,7 +104,6 @@ pub struct Opened {
 }
 
 /// What is known of the best lane besides its cells.
-#[cfg(feature = "lane")]
 #[derive(Clone, Copy, Debug, PartialEq, Eq)]
 pub struct Lane {
     /// The least squared distance on it.
@@ -142,7 +141,6 @@ pub fn map(
 }
 
 /// Makes the map of a cost picture: each word a cost, or [`MARK`] for no feature. Kinds 0 and 1.
-#[cfg(feature = "costs")]
 pub fn cost_map(board: Board, kind: u32, costs: &[u32], buffers: Buffers) -> Result<(), Refusal> {
     // SAFETY: each pointer stands with its own slice's length; exclusive slices never overlap.
     let answer = unsafe {
@@ -190,7 +188,6 @@ pub fn clear(setting: Setting, squares: &[u32], clear: &mut [u8]) -> Result<(), 
 
 /// Finds the best lane between two cells: widest, then fewest cells, then first. The path takes its
 /// cells, then marks; the buffers are left as by a [`map`] of [`Measure::EUCLID`].
-#[cfg(feature = "lane")]
 pub fn lane(
     board: Board,
     picture: &[u8],

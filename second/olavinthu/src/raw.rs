@@ -22,8 +22,6 @@ extern "C" {
         scratch: *mut u32,
         scratch_count: usize,
     ) -> u32;
-
-    #[cfg(feature = "costs")]
     pub fn olv_cost_map(
         width: u32,
         height: u32,
@@ -49,8 +47,6 @@ extern "C" {
         clear: *mut u8,
         clear_count: usize,
     ) -> u32;
-
-    #[cfg(feature = "lane")]
     pub fn olv_lane(
         width: u32,
         height: u32,

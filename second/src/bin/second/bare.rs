@@ -33,8 +33,6 @@ pub fn silent_opening(setting: Setting, generator: &mut Generator) -> Result<(),
     // SAFETY: the out-words are valid.
     silent(generator, |a, b| unsafe { raw::olv_open(setting, a, b) })
 }
-
-#[cfg(feature = "lane")]
 pub fn silent_lane(
     call: &second::rules::LaneCall,
     buffers: olavinthu::Buffers,
@@ -89,8 +87,6 @@ fn null_map() -> u32 {
     // SAFETY: a list of no elements may be null.
     unsafe { raw::olv_map(1, 1, 0, 0, 0, null(), 0, none, 0, none, 0, none, 0) }
 }
-
-#[cfg(feature = "costs")]
 fn null_cost_map() -> u32 {
     let none = null_mut();
     // SAFETY: a list of no elements may be null.
@@ -102,8 +98,6 @@ fn null_clear() -> u32 {
     // SAFETY: a list of no elements may be null.
     unsafe { raw::olv_clear(setting, null(), 0, null_mut(), 0) }
 }
-
-#[cfg(feature = "lane")]
 #[rustfmt::skip]
 fn null_lane() -> u32 {
     let none = null_mut();
@@ -117,10 +111,8 @@ fn null_lane() -> u32 {
 pub fn compare(run: &mut Run) {
     let calls = [
         NullLists("map", null_map),
-        #[cfg(feature = "costs")]
         NullLists("cost map", null_cost_map),
         NullLists("clear", null_clear),
-        #[cfg(feature = "lane")]
         NullLists("lane", null_lane),
     ];
     for call in calls {

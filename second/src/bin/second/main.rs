@@ -11,11 +11,9 @@
 mod bare;
 mod boards;
 mod changeovers;
-#[cfg(feature = "costs")]
 mod costs;
 mod damage;
 mod knob;
-#[cfg(feature = "lane")]
 mod lanes;
 mod lent;
 mod map_case;
@@ -37,17 +35,10 @@ fn main() {
     };
     let mut run = Run::new(seed);
     maps::compare(&mut run);
-    #[cfg(feature = "costs")]
     costs::compare(&mut run);
     changeovers::compare(&mut run);
     knob::compare(&mut run);
-    #[cfg(feature = "lane")]
     lanes::compare(&mut run);
     bare::compare(&mut run);
     run.report();
-    for (feature, on) in [("costs", cfg!(feature = "costs")), ("lane", cfg!(feature = "lane"))] {
-        if !on {
-            println!("built without the feature `{feature}`: its function was not called");
-        }
-    }
 }

@@ -1,0 +1,150 @@
+-- The lane entry, put together. Where no test of a lane call holds, none of the map call holds either, so the map is
+-- made. Its first W·H distance words are the words of the cells. The labels stand in the first W·H scratch words, which
+-- the map left at zero, and are zero again at the end: the scratch is as the map left it. The path's first W·H words
+-- come back with the best lane and marks. Assumes nothing.
+use mathlib.Core.Path.{_≡_, refl, _∙_, sym, ap, subst}
+use mathlib.Core.Bool.{false}
+use mathlib.Core.List.{List, _++_}
+use Prim.Native.Nat.{ℕ, _+_, _*_, _≤_, _<_}
+use native.Mathlib.Nat.{mul-le-mul-left}
+use native.Mathlib.Omega.{arith}
+use lib.Dec.{lit<}
+use lib.ListN.{length, take, drop, take-append-drop, List·getD-append}
+use lib.Seq.{length-take-le, length-front, getD-take, take-append-le, drop-at, ext-getD}
+use Rattle.rules.specs.Board.{cell, Sides}
+use Rattle.rules.specs.Refusals.{answer, any, bad-sides, bad-buffers, bad-byte, no-bore, picture-rows, lane-rows}
+use Rattle.rules.specs.Accepted.{LaneAccepted}
+use Rattle.rules.specs.Tie.{MapWord}
+use Rattle.rules.specs.Calls.{Buffers, buffers, Beyond, PictureLeft, LaneLeft, LaneCall}
+use Rattle.rules.proofs.Board.{cell-in}
+use Rattle.rules.proofs.Refusals.{kind-good, weights-good, or-first, lane-row-by-row}
+use Rattle.maps.proofs.Rows.{cells-few}
+use Rattle.lane.specs.Around.{Rows, Lists}
+use Rattle.lane.specs.Labelling.{at}
+use Rattle.lane.specs.Course.{Laid}
+
+-- the cells of the board lie in rows of its width
+pub board-rows : {w h : ℕ} → Sides w h → Rows w (w * h)
+board-rows {w} {h} s =
+    record {
+      rows = h;
+      whole = refl;
+      from = s .width-from;
+      across = omega (arith, mul-le-mul-left w (s .height-from));
+      to = cells-few s;
+    }
+
+-- the first words of a list that come back as they were, if they hold the same
+pub as-left : (n : ℕ) (list part : List ℕ) → n ≤ length list → length part ≡ n
+    → ((k : ℕ) → k < n → at part k ≡ at list k) → part ++ drop n list ≡ list
+as-left n list part room long same =
+    ap (λ l. l ++ drop n list)
+    (ext-getD 0 part (take n list) (long ∙ sym (length-take-le n list room))
+    (λ i h. same i (omega arith) ∙ sym (getD-take n list i 0 (omega arith))))
+    ∙ take-append-drop n list
+
+-- beyond the first words a list is as it was
+front-beyond : (n : ℕ) (list part : List ℕ) → length part ≡ length (take n list) → n ≤ length list
+    → Beyond n list (part ++ drop n list)
+front-beyond n list part long room =
+    record {
+      as-long = length-front list part n long;
+      untouched = drop-at part (drop n list) n (long ∙ length-take-le n list room);
+    }
+
+module _ (w h : ℕ) (picture : List ℕ) (from to : ℕ) where
+  -- where no test of a lane call holds, none of the map call holds
+  pub map-answers : (distances sites scratch path : ℕ)
+      → answer (lane-rows w h picture from to distances sites scratch path) ≡ 0
+      → answer (picture-rows w h 0 0 0 picture distances sites scratch) ≡ 0
+  map-answers distances sites scratch path e =
+      let passed = lane-row-by-row w h picture from to distances sites scratch path .none .0 e in
+      let one : bad-sides w h ≡ false = passed 0 (lit< tt) in
+      let four : bad-buffers w h (length picture) distances sites scratch ≡ false = or-first _ _ (passed 1 (lit< tt)) in
+      let five : any bad-byte picture ≡ false = passed 2 (lit< tt) in
+      let six : no-bore picture ≡ false = passed 3 (lit< tt) in
+      rw (one, kind-good 3 0 (omega arith), weights-good 0 0 0 (λ z. absurd (omega arith)), four, five, six)
+
+  -- a call that is refused leaves everything
+  pub refused-call : {n : ℕ} {b : Buffers} {path : List ℕ}
+      → n ≡ answer (lane-rows w h picture from to (length (b .distances)) (length (b .sites)) (length (b .scratch))
+      (length path))
+      → (n ≡ 0 → ⊥) → LaneCall w h picture from to b path n 0 0 b path
+  refused-call is some = record { answered = is; refused = λ _. (refl, refl); done = λ z. absurd (some z) }
+
+  -- a call that is accepted answers 0
+  pub found-call : {broad cells : ℕ} {b b′ : Buffers} {path path′ : List ℕ}
+      → 0 ≡ answer (lane-rows w h picture from to (length (b .distances)) (length (b .sites)) (length (b .scratch))
+      (length path))
+      → LaneLeft w h picture from to b path broad cells b′ path′
+      → LaneCall w h picture from to b path 0 broad cells b′ path′
+  found-call is left = record { answered = is; refused = λ some. absurd (some refl); done = λ _. left }
+
+  module _ {distances sites scratch distances′ sites′ scratch′ : List ℕ} (path : List ℕ)
+      (A : LaneAccepted w h picture from to (length distances) (length sites) (length scratch) (length path))
+      (M : PictureLeft w h 0 0 0 picture (buffers distances sites scratch) (buffers distances′ sites′ scratch′)) where
+    -- the lists are long enough for the board
+    pub words-room : w * h ≤ length distances′
+    words-room = omega (arith, A .lent .distances-from, M .distances-beyond .as-long)
+
+    pub scratch-room : w * h ≤ length scratch′
+    scratch-room = omega (arith, A .lent .scratch-from, M .scratch-beyond .as-long)
+
+    -- what the best lane asks
+    pub askable : Lists w (take (w * h) distances′) (take (w * h) scratch′) (take (w * h) path)
+        × (from < length (take (w * h) distances′)) × (to < length (take (w * h) distances′))
+    askable =
+        let words-long = length-take-le (w * h) distances′ words-room in
+        let board : Rows w (length (take (w * h) distances′)) = rw words-long (board-rows (A .sides)) in (
+          record {
+            board = board;
+            labels-long = length-take-le (w * h) scratch′ scratch-room ∙ sym words-long;
+            queue-long = length-take-le (w * h) path (A .path-from) ∙ sym words-long;
+          },
+          omega (arith, words-long, A .from-in),
+          omega (arith, words-long, A .to-in),
+        )
+
+    -- what the entry leaves
+    module _ {labels part : List ℕ} {broad cells : ℕ}
+        (L : Laid w (length (take (w * h) distances′)) (at (take (w * h) distances′)) from to broad cells labels part)
+        (labels-long : length labels ≡ length (take (w * h) scratch′))
+        (part-long : length part ≡ length (take (w * h) path)) where
+      -- the best lane, on the board
+      abbrev laid : Laid w (w * h) (at (take (w * h) distances′)) from to broad cells labels part
+      laid =
+          subst (λ n. Laid w n (at (take (w * h) distances′)) from to broad cells labels part)
+          (length-take-le (w * h) distances′ words-room) L
+
+      -- the path's part is as long as the board
+      board-long : length part ≡ w * h
+      board-long = part-long ∙ length-take-le (w * h) path (A .path-from)
+
+      -- the lane's cells are those of the part
+      cells-of : take cells (part ++ drop (w * h) path) ≡ take cells part
+      cells-of = take-append-le cells part (drop (w * h) path) (omega (arith, laid .cells-in, board-long))
+
+      -- the scratch is as the map left it
+      scratch-back : labels ++ drop (w * h) scratch′ ≡ scratch′
+      scratch-back =
+          as-left (w * h) scratch′ labels scratch-room (labels-long ∙ length-take-le (w * h) scratch′ scratch-room)
+          (λ k l. laid .cleared k l ∙ sym (M .zeroed k (omega arith)))
+
+      -- all of it
+      pub lane-left : LaneLeft w h picture from to (buffers distances sites scratch) path broad cells
+          (buffers distances′ sites′ (labels ++ drop (w * h) scratch′)) (part ++ drop (w * h) path)
+      lane-left =
+          record {
+            word = at (take (w * h) distances′);
+            word-least =
+                λ x y in-row in-column.
+                subst (MapWord 0 0 0 w h picture x y)
+                (sym (getD-take (w * h) distances′ (cell w x y) 0 (cell-in in-row in-column))) (M .words x y in-row in-column);
+            best = rw cells-of (laid .best h refl);
+            width-is = rw cells-of (laid .width-is h refl);
+            cells-is = ap length cells-of ∙ length-take-le cells part (omega (arith, laid .cells-in, board-long));
+            marked =
+                λ k l m. List·getD-append part (drop (w * h) path) 0 k (omega (arith, board-long)) ∙ laid .marked k l m;
+            path-beyond = front-beyond (w * h) path part part-long (A .path-from);
+            map-left = rw scratch-back M;
+          }

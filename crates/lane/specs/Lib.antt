@@ -1,0 +1,3 @@
+pub mod Around
+pub mod Labelling
+pub mod Course

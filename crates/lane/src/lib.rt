@@ -1,0 +1,141 @@
+// The lane: a flood from the far end, the width by halving, and a walk down the labels of a last flood.
+use crate::flood::fill;
+use crate::flood::flood;
+use crate::walk::walk;
+use crate::widths::width_of;
+use maps::picture_map;
+use rules::LaneAnswer;
+use rules::MARK;
+ghost use Prim.Native.Nat.{_<_};
+ghost use mathlib.Core.Path.{_≡_};
+ghost use lib.ListN.{length};
+ghost use Rattle.rules.specs.Refusals.{answer, lane-rows};
+ghost use Rattle.rules.specs.Answers.{lane-number, lane-width, lane-cells};
+ghost use Rattle.rules.specs.Calls.{buffers, LaneCall};
+ghost use Rattle.lane.specs.Around.{Lists};
+ghost use Rattle.lane.specs.Labelling.{at};
+ghost use Rattle.lane.specs.Course.{Laid};
+
+mod flood;
+mod sides;
+mod walk;
+mod widths;
+
+// A lane: its width, and how many cells of it stand in the path.
+struct Course {
+    width: u32,
+    cells: u32,
+}
+
+// The best lane over the words of a board whose rows are w cells long. `labels` and `path` are as long as the board.
+fn best_lane(
+    w: usize,
+    from: usize,
+    to: usize,
+    words: &[u32],
+    labels: &mut [u32],
+    path: &mut [u32],
+) -> Course
+    requires { ⌜ Lists w (now words) (now labels) (now path) × (from < length (now words)) × (to < length (now words)) ⌝ }
+    ensures { λ r. ⌜ Laid w (length (now (words .entry))) (at (now (words .entry))) from to (r .width) (r .cells)
+        (now (labels .exit)) (now (path .exit)) ⌝ }
+{
+    let width = width_of(w, from, to, words, labels, path);
+    flood(w, width, to, words, labels, path);
+    let cells = walk(w, from, labels, path);
+    fill(labels, 0);
+    fill(&mut path[cells..], MARK);
+    Course {
+        width,
+        cells: cells as u32,
+    }
+}
+
+// The number of the first row of the table that holds of a lane call, 0 for none. The buffers go by their lengths.
+fn refusal(
+    w: u32,
+    h: u32,
+    picture: &[u8],
+    from: u32,
+    to: u32,
+    distances: usize,
+    sites: usize,
+    scratch: usize,
+    path: usize,
+) -> u32
+    ensures { λ r. ⌜ r ≡ answer (lane-rows w h (now (picture .entry)) from to distances sites scratch path) ⌝ }
+{
+    if entry::sides(w, h) {
+        return 1;
+    }
+    let across = w as usize;
+    let down = h as usize;
+    let cells = across * down;
+    if entry::buffers(across, down, picture.len(), distances, sites, scratch) {
+        return 4;
+    }
+    if path < cells {
+        return 4;
+    }
+    if entry::bytes(picture) {
+        return 5;
+    }
+    if entry::boreless(picture) {
+        return 6;
+    }
+    if cells <= from as usize {
+        return 7;
+    }
+    if cells <= to as usize {
+        return 7;
+    }
+    0
+}
+
+// The widest lane from one cell to another: its width and its number of cells, or the number of the first row of the
+// table that holds.
+pub fn widest(
+    w: u32,
+    h: u32,
+    picture: &[u8],
+    from: u32,
+    to: u32,
+    distances: &mut [u32],
+    sites: &mut [u32],
+    scratch: &mut [u32],
+    path: &mut [u32],
+) -> LaneAnswer
+    ensures { λ r. ⌜ LaneCall w h (now (picture .entry)) from to
+        (buffers (now (distances .entry)) (now (sites .entry)) (now (scratch .entry))) (now (path .entry))
+        (lane-number r) (lane-width r) (lane-cells r)
+        (buffers (now (distances .exit)) (now (sites .exit)) (now (scratch .exit))) (now (path .exit)) ⌝ }
+{
+    let refused = refusal(
+        w,
+        h,
+        picture,
+        from,
+        to,
+        distances.len(),
+        sites.len(),
+        scratch.len(),
+        path.len(),
+    );
+    if refused != 0 {
+        return LaneAnswer::Refused(refused);
+    }
+    picture_map(w, h, 0, 0, 0, picture, distances, sites, scratch);
+    let n = (w as usize) * (h as usize);
+    let course = best_lane(
+        w as usize,
+        from as usize,
+        to as usize,
+        &distances[..n],
+        &mut scratch[..n],
+        &mut path[..n],
+    );
+    LaneAnswer::Found {
+        width: course.width,
+        cells: course.cells,
+    }
+}

@@ -1,5 +1,5 @@
-// The sample boards of document 01 through the public entries, a line for each. The samples of costs, of lanes and of
-// the bench file wait for their entries.
+// The sample boards of document 01 through the public entries, a line for each. The samples of the bench file wait for
+// their entry.
 use boards::board;
 use boards::chamfer_board;
 use boards::show_003;
@@ -7,13 +7,18 @@ use boards::show_answer;
 use boards::show_cell;
 use boards::show_largest;
 use changeovers::show_changeover;
+use courses::show_lane;
 use knobs::show_clear;
 use knobs::show_value;
+use prices::show_costs;
+use rules::COST;
 use rules::SIDE;
 
 mod boards;
 mod changeovers;
+mod courses;
 mod knobs;
+mod prices;
 mod text;
 
 // The cell that the paper names, of boards with a few bores.
@@ -57,6 +62,22 @@ fn values() {
     show_value(b"-1.0", -1.0);
 }
 
+// Costs of five cells in a row, and one that is too dear.
+fn lines_of_costs() {
+    show_costs(b"kind 0, costs 9 0 9 9 9", 0, &[9, 0, 9, 9, 9]);
+    show_costs(b"kind 1, costs 9 0 9 9 9", 1, &[9, 0, 9, 9, 9]);
+    show_costs(b"kind 1, costs 4 2 8 6 1", 1, &[4, 2, 8, 6, 1]);
+    show_costs(b"cost 1000001", 0, &[COST + 1, 0, 0, 0, 0]);
+}
+
+// Lanes around a bore, from a cell to itself, and across a bore.
+fn lanes() {
+    let middle = [0, 0, 0, 0, 1, 0, 0, 0, 0];
+    show_lane(b"3 by 3, bore 4, lane 0 to 8", 3, 3, &middle, 0, 8);
+    show_lane(b"3 by 3, bore 4, lane 0 to 0", 3, 3, &middle, 0, 0);
+    show_lane(b"5 by 1, bore 2, lane 0 to 4", 5, 1, &[0, 0, 1, 0, 0], 0, 4);
+}
+
 fn main() {
     cells();
     show_003();
@@ -67,4 +88,6 @@ fn main() {
     show_changeover(510, 511, 0, 2_000_000);
     values();
     show_clear();
+    lines_of_costs();
+    lanes();
 }

@@ -132,7 +132,8 @@ uint32_t olv_clear(olv_setting setting,
  *   picture    exactly w * h bytes
  *   from, to   the numbers of the two end cells
  *   distances, sites, scratch  as for olv_map, and left as by a kind 0 map
- *   path       at least w * h words; the first *cells become the lane from end to end, the rest of w * h OLV_MARK
+ *   path       at least w * h words; the first *cells become the lane, `from` first and `to` last, the rest of
+ *              w * h OLV_MARK
  *   width      becomes the width
  *   cells      becomes the number of cells on the lane
  *

@@ -27,7 +27,7 @@ pub record Scattered (w x : ℕ) (values winners before after : List ℕ) : Type
   pub each : (y : ℕ) → y < length values → getD after (cell w x y) 0 ≡ winner-word values (getD winners y 0)
   pub others : (i y : ℕ) → i < w → i ≢ x → getD after (cell w i y) 0 ≡ getD before (cell w i y) 0
 
--- a column word that can be believed: the mark, or a row whose cell in column i has a cost
+-- a column word that can be believed: the mark, or a row whose cell in column i is on the board
 abbrev pub Priced : ℕ → List ℕ → ℕ → ℕ → Type 0
 Priced w costs i word = ((word < side-limit) × (cell w i word < length costs)) ⊎ (word ≡ mark)
 

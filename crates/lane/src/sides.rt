@@ -1,4 +1,4 @@
-// The four sides of a cell: the only place that knows how a board's rows lie.
+// The four sides of a cell.
 ghost use Prim.Native.Nat.{_<_};
 ghost use mathlib.Core.Path.{_≡_};
 ghost use Rattle.rules.specs.Board.{column};

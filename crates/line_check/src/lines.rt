@@ -11,8 +11,6 @@ ghost use Rattle.envelope.specs.Line.{Line};
 const FACTOR: u64 = 48_271;
 // .. modulo this prime, 2^31 - 1.
 const MODULUS: u64 = 2_147_483_647;
-// A value that is far above every small one, as an empty column's is.
-const STAND_IN: u64 = 1 << 40;
 // Most lines are at most this long.
 const SHORT: u64 = 48;
 // How many styles of value there are.
@@ -55,10 +53,10 @@ fn value(seed: &mut u64, style: u64, reach: u64) -> u64
         4 => LINE - squared(draw(seed, reach + 1)),
         // anything up to the limit
         5 => draw(seed, LINE + 1),
-        // empty columns among small values
+        // empty columns, which stand at the limit, among small values
         _ => {
             if draw(seed, 2) == 0 {
-                STAND_IN
+                LINE
             } else {
                 draw(seed, reach + 1)
             }

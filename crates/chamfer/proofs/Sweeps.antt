@@ -20,14 +20,15 @@ use Rattle.chamfer.proofs.Cells.{each-word, words-after}
 use Rattle.chamfer.proofs.Nearer.{Before, nearer}
 
 -- a bore that holds a neighbour holds the cell through it
-through : {b : Board} {picture words : List ℕ} {x y v scans : ℕ}
+through : {b : Board} {picture words : List ℕ} {x y from to v scans : ℕ}
     → Weights (b .d1) (b .d2)
+    → to ≤ 8
     → Reached b picture words scans
-    → Offered b words x y v
+    → Offered b words x y from to v
     → Held b picture x y v
-through {b} c R o =
+through {b} c to-in R o =
     let held = R .never-less (o .x′) (o .y′) (o .neighbour .on-board) in
-    let listed = entry (o .k) (step none none 0) (o .entry-in) in
+    let listed = entry (o .k) (step none none 0) (omega (arith, o .entry-to)) in
     let near = never-too-small (held .i) (held .j) c listed (o .neighbour .leads) in
     record { i = held .i; j = held .j; bore = held .bore; no-farther = omega (arith, near .0, o .offer-is) }
 
@@ -63,7 +64,7 @@ module _ {b : Board} {words : List ℕ} {scan t x y v : ℕ} (here : On b x y) (
               record {
                 never-less =
                     each-word W here (Held b picture)
-                    (⊎-elim (λ e. rw e (R .never-less x y here)) (through c R) (L .made))
+                    (⊎-elim (λ e. rw e (R .never-less x y here)) (through c (omega arith) R) (L .made))
                     (λ x′ y′ on other. R .never-less x′ y′ on);
                 never-more =
                     λ i j bore.

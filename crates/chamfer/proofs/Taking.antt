@@ -7,11 +7,10 @@ use Prim.Native.Nat.{ℕ, _+_, _≤_, _<_}
 use native.Mathlib.Nat.{le-refl}
 use native.Mathlib.Decide.{ℕ-discrete}
 use native.Mathlib.Omega.{arith}
-use Rattle.rules.specs.Table.{weight}
+use Rattle.rules.specs.Table.{weight, Leads}
 use Rattle.rules.specs.declared.Step.{Step}
-use Rattle.rules.proofs.Table.{Leads}
 use Rattle.chamfer.specs.declared.Board.{Board}
-use Rattle.chamfer.specs.Neighbours.{word, On, printed, Moved, Neighbour, offer, Lesser, Lowest}
+use Rattle.chamfer.specs.Neighbours.{word, On, printed, Moved, Neighbour, offer, Offered, Lesser, Lowest}
 
 module _ {b : Board} {x y k : ℕ} {s : Step} (is : s ≡ printed k) where
   -- the column that was worked out is the neighbour's
@@ -46,8 +45,8 @@ module _ {b : Board} {x y k : ℕ} {s : Step} (is : s ≡ printed k) where
       bounded l x′ y′ n = rw (same-column a n, same-row d n, ← is) (omega arith)
 
       -- it offers less: that is taken
-      pub taken : {best : ℕ} → k < 8 → through < best → Lesser b words x y k best through
-      taken k-in l =
+      pub taken : {best : ℕ} → through < best → Lesser b words x y k best through
+      taken l =
           let there-leads : Leads s x y column row =
           record { across = a .leads (there .column-in); down = d .leads (there .row-in) } in
           record {
@@ -59,7 +58,8 @@ module _ {b : Board} {x y k : ℕ} {s : Step} (is : s ≡ printed k) where
                   k = k;
                   x′ = column;
                   y′ = row;
-                  entry-in = k-in;
+                  entry-from = le-refl k;
+                  entry-to = omega arith;
                   neighbour = record { leads = rw (← is) there-leads; on-board = there };
                   offer-is = rw (← is) e;
                 });
@@ -74,23 +74,30 @@ module _ {b : Board} {words : List ℕ} {x y from : ℕ} where
   pub own-word : Lowest b words x y from from (word b words x y)
   own-word = record { no-more = le-refl _; no-more-through = λ k x′ y′ f t n. absurd (omega arith); made = inl refl }
 
-  -- one entry more
-  pub one-more : {k best v : ℕ} → Lowest b words x y from k best → Lesser b words x y k best v
-      → Lowest b words x y from (k + 1) v
-  one-more {k} L R =
+  -- what is offered by some entries is offered by more
+  wider : {from′ to to′ v : ℕ} → from ≤ from′ → to ≤ to′ → Offered b words x y from′ to v
+      → Offered b words x y from to′ v
+  wider f t o =
       record {
-        no-more = omega (arith, L .no-more, R .no-more);
-        no-more-through = λ m x′ y′ f t n.
-            by-cases (ℕ-discrete m k) (λ e. rw e (R .no-more-through x′ y′ (rw e at n)))
-            (λ other. omega (arith, R .no-more, L .no-more-through m x′ y′ f (omega arith) n));
-        made = ⊎-elim (λ e. ⊎-elim (λ o. inl (e ∙ o)) (λ o. inr (rw e o)) (L .made)) inr (R .made);
+        k = o .k;
+        x′ = o .x′;
+        y′ = o .y′;
+        entry-from = omega (arith, o .entry-from);
+        entry-to = omega (arith, o .entry-to);
+        neighbour = o .neighbour;
+        offer-is = o .offer-is;
       }
 
-  -- what is the least over more entries is the least over those before
-  pub all-taken : {k to v : ℕ} → Lowest b words x y from k v → to ≤ k → Lowest b words x y from to v
-  all-taken L l =
+  -- one entry more
+  pub one-more : {k best v : ℕ} → from ≤ k → Lowest b words x y from k best → Lesser b words x y k best v
+      → Lowest b words x y from (k + 1) v
+  one-more {k} f L R =
       record {
-        no-more = L .no-more;
-        no-more-through = λ m x′ y′ f t n. L .no-more-through m x′ y′ f (omega arith) n;
-        made = L .made;
+        no-more = omega (arith, L .no-more, R .no-more);
+        no-more-through = λ m x′ y′ g t n.
+            by-cases (ℕ-discrete m k) (λ e. rw e (R .no-more-through x′ y′ (rw e at n)))
+            (λ other. omega (arith, R .no-more, L .no-more-through m x′ y′ g (omega arith) n));
+        made =
+            ⊎-elim (λ e. ⊎-elim (λ o. inl (e ∙ o)) (λ o. inr (rw e (wider (le-refl from) (omega arith) o))) (L .made))
+            (λ o. inr (wider f (le-refl (k + 1)) o)) (R .made);
       }

@@ -8,9 +8,8 @@ use lib.IntN.{ℤ, pos, _+ℤ_}
 use lib.ListN.{length, getD, set}
 use Rattle.rules.specs.Board.{Sides, cell}
 use Rattle.rules.specs.Measures.{Weights}
-use Rattle.rules.specs.Table.{step, none, steps, weight}
+use Rattle.rules.specs.Table.{step, none, steps, weight, Leads}
 use Rattle.rules.specs.declared.Step.{Step}
-use Rattle.rules.proofs.Table.{Leads}
 use Rattle.chamfer.specs.declared.Board.{Board}
 
 -- the word of a cell that no bore has reached: above every true word, with room for a weight
@@ -54,12 +53,13 @@ pub record Neighbour (b : Board) (k x y x′ y′ : ℕ) : Type 0 where
 abbrev pub offer : Board → List ℕ → ℕ → ℕ → ℕ → ℕ
 offer b words k x′ y′ = word b words x′ y′ + weight (b .d1) (b .d2) (printed k .2)
 
--- v is what some neighbour of (x, y) offers
-pub record Offered (b : Board) (words : List ℕ) (x y v : ℕ) : Type 0 where
+-- v is what some neighbour of (x, y) by one of the entries from .. to − 1 offers
+pub record Offered (b : Board) (words : List ℕ) (x y from to v : ℕ) : Type 0 where
   pub k : ℕ
   pub x′ : ℕ
   pub y′ : ℕ
-  pub entry-in : k < 8
+  pub entry-from : from ≤ k
+  pub entry-to : k < to
   pub neighbour : Neighbour b k x y x′ y′
   pub offer-is : v ≡ offer b words k x′ y′
 
@@ -67,13 +67,13 @@ pub record Offered (b : Board) (words : List ℕ) (x y v : ℕ) : Type 0 where
 pub record Lesser (b : Board) (words : List ℕ) (x y k best v : ℕ) : Type 0 where
   pub no-more : v ≤ best
   pub no-more-through : (x′ y′ : ℕ) → Neighbour b k x y x′ y′ → v ≤ offer b words k x′ y′
-  pub made : (v ≡ best) ⊎ Offered b words x y v
+  pub made : (v ≡ best) ⊎ Offered b words x y k (k + 1) v
 
 -- v is the least of the word of (x, y) and of what its neighbours by the entries from .. to − 1 offer
 pub record Lowest (b : Board) (words : List ℕ) (x y from to v : ℕ) : Type 0 where
   pub no-more : v ≤ word b words x y
   pub no-more-through : (k x′ y′ : ℕ) → from ≤ k → k < to → Neighbour b k x y x′ y′ → v ≤ offer b words k x′ y′
-  pub made : (v ≡ word b words x y) ⊎ Offered b words x y v
+  pub made : (v ≡ word b words x y) ⊎ Offered b words x y from to v
 
 -- the cell (x, y) has had its turn with those entries: it has the lowest word, and every other cell what it had
 pub record Turned (b : Board) (x y from to : ℕ) (before after : List ℕ) : Type 0 where

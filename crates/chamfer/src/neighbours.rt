@@ -86,7 +86,7 @@ fn lesser(b: Board, words: &[u32], x: usize, y: usize, k: usize, best: u32) -> u
 
 // The least of the cell's own word and of what its neighbours by the entries from .. to − 1 offer.
 fn lowest(b: Board, words: &[u32], x: usize, y: usize, from: usize, to: usize) -> u32
-    requires { ⌜ Ruled b × Words b (now words) × On b x y × (to ≤ 8) ⌝ }
+    requires { ⌜ Ruled b × Words b (now words) × On b x y × (from ≤ to) × (to ≤ 8) ⌝ }
     ensures { λ r. ⌜ Lowest b (now (words .entry)) x y from to r ⌝ }
 {
     let w = b.w;
@@ -99,7 +99,7 @@ fn lowest(b: Board, words: &[u32], x: usize, y: usize, from: usize, to: usize) -
 
 // The turn of one cell: it takes the lowest word.
 pub fn relax(b: Board, words: &mut [u32], x: usize, y: usize, from: usize, to: usize)
-    requires { ⌜ Ruled b × Words b (now words) × On b x y × (to ≤ 8) ⌝ }
+    requires { ⌜ Ruled b × Words b (now words) × On b x y × (from ≤ to) × (to ≤ 8) ⌝ }
     ensures { λ _. ⌜ Turned b x y from to (now (words .entry)) (now (words .exit)) ⌝ }
 {
     let w = b.w;

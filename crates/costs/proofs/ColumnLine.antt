@@ -3,7 +3,7 @@
 -- the column has a cost, the winner is the nearest row by rank, the upper one on a tie; and where even the winner is
 -- marked, the column has none. Assumes nothing.
 use mathlib.Core.Path.{_≡_, refl, sym, _∙_, ap, subst}
-use mathlib.Core.Logic.{_≢_, by-cases}
+use mathlib.Core.Logic.{_≢_, ⊎-elim, by-cases}
 use mathlib.Core.List.{List}
 use Prim.Native.Nat.{ℕ, zero, suc, _+_, _*_, _≤_, _<_}
 use native.Mathlib.Nat.{lt-of-le-of-lt}
@@ -13,14 +13,14 @@ use borrow.Author.Count.{below-more}
 use borrow.Author.Tests.{eq-eqb, ne-eqb}
 use borrow.Rule.Slice.PartMut.{putMid}
 use lib.ListN.{length, getD}
-use Rattle.rules.specs.Limits.{side-limit, mark, line-limit}
-use Rattle.rules.specs.Board.{away, cost-at, Unmarked}
+use Rattle.rules.specs.Limits.{side-limit, mark, cost-limit, line-limit}
+use Rattle.rules.specs.Board.{cell, away, cost-at, Unmarked}
 use Rattle.rules.specs.Measures.{measure}
-use Rattle.rules.specs.Columns.{Nearest, ColumnWord}
+use Rattle.rules.specs.Columns.{Nearest, ColumnWord, cost-rank}
 use Rattle.rules.specs.Refusals.{scratch-words}
 use Rattle.rules.proofs.Board.{cell-in}
-use Rattle.rules.proofs.Columns.{cost-rank}
 use Rattle.rules.proofs.Measures.{lawful}
+use Rattle.rules.proofs.Refusals.{getD-within}
 use Rattle.rules.proofs.Parts.{put-before}
 use Rattle.envelope.specs.declared.Gauge.{Gauge}
 use Rattle.envelope.specs.Line.{Known, Line, Wins, height-at}
@@ -29,14 +29,22 @@ use Rattle.rows.proofs.RowLine.{combine-small}
 use Rattle.costs.specs.Lines.{Gathered, winner-word, Scattered}
 use Rattle.costs.specs.Left.{Passed, ColumnLeft, ColumnsLeft, ColumnMore}
 
+-- a cell that has a cost has one within the limit
+pub within-limit : {kind w h : ℕ} {costs : List ℕ} → Passed kind w h costs → (i j : ℕ) → i < w → j < h → Unmarked w costs i j
+    → cost-at w costs i j ≤ cost-limit
+within-limit {w = w} {costs = costs} P i j l m n =
+    let within : cell w i j < length costs = omega (arith, cell-in l m, P .lent .picture-is) in
+    let same = getD-within costs (cell w i j) mark 0 within in
+    ⊎-elim (λ c. omega (arith, same)) (λ e. absurd (n (same ∙ e))) (P .costs-in (cell w i j) within)
+
 -- in kinds 0 and 1 a value is added to the lifted difference
-added : (kind dx v : ℕ) → kind < 2 → measure kind .combine dx v ≡ measure kind .lift dx + v
+added : (kind dx v : ℕ) → kind ≤ 1 → measure kind .combine dx v ≡ measure kind .lift dx + v
 added zero dx v l = refl
 added (suc zero) dx v l = refl
 added (suc (suc k)) dx v l = absurd (omega arith)
 
 -- the engine knows the kinds of costs
-pub known : (g : Gauge) → g .kind < 2 → Known g
+pub known : (g : Gauge) → g .kind ≤ 1 → Known g
 known g l = record { kind-in = omega arith }
 
 module _ {g : Gauge} {w h x : ℕ} {costs values : List ℕ} (P : Passed (g .kind) w h costs) (x-in : x < w)
@@ -58,7 +66,7 @@ module _ {g : Gauge} {w h x : ℕ} {costs values : List ℕ} (P : Passed (g .kin
             λ j below.
             let l : j < h = omega arith in
             by-cases (ℕ-discrete (cost-at w costs x j) mark) (λ e. omega (arith, marked-value j l e))
-            (λ n. omega (arith, true-value j l n, P .costs-to x j x-in l n));
+            (λ n. omega (arith, true-value j l n, within-limit P x j x-in l n));
       }
 
   -- a cell that has a cost is as high as its rank, and lower than the line limit
@@ -73,7 +81,7 @@ module _ {g : Gauge} {w h x : ℕ} {costs values : List ℕ} (P : Passed (g .kin
   low j y l m n =
       let near : away y j < side-limit = lt-of-le-of-lt (apart-below y j) (omega (arith, P .sides .height-to)) in
       let s = combine-small (g .kind) (getD values j 0) near in
-      omega (arith, true-value j l n, P .costs-to x j x-in l n)
+      omega (arith, true-value j l n, within-limit P x j x-in l n)
 
   -- a marked cell is as high as the line limit
   high : (j y : ℕ) → j < h → cost-at w costs x j ≡ mark → line-limit ≤ height-at g values j y
@@ -108,7 +116,7 @@ module _ {g : Gauge} {w h x : ℕ} {costs values : List ℕ} (P : Passed (g .kin
         }))
         (λ n.
         let cheap : getD values j 0 ≢ line-limit =
-        λ e. omega (arith, true-value j winner-in n, P .costs-to x j x-in winner-in n) in
+        λ e. omega (arith, true-value j winner-in n, within-limit P x j x-in winner-in n) in
         rw (ne-eqb (getD values j 0) line-limit cheap)
         (record {
           named = λ _. winner-nearest n;

@@ -14,11 +14,11 @@ use borrow.Rule.Slice.PartMut.{putMid, same-len-mid}
 use lib.ListN.{length, getD, take, drop}
 use Rattle.rules.specs.Limits.{side-limit, mark}
 use Rattle.rules.specs.Board.{cell, away, Unmarked}
-use Rattle.rules.specs.Columns.{ColumnWord}
+use Rattle.rules.specs.Columns.{ColumnWord, cost-rank}
 use Rattle.rules.specs.Tie.{CostMapWord, CostMapSite}
 use Rattle.rules.specs.Refusals.{scratch-words}
 use Rattle.rules.proofs.Board.{cell-in}
-use Rattle.rules.proofs.Columns.{cost-rank, cost-step}
+use Rattle.rules.proofs.Columns.{cost-step}
 use Rattle.rules.proofs.Measures.{lawful, additive}
 use Rattle.rules.proofs.Parts.{part-length, put-before, put-inside}
 use Rattle.envelope.specs.declared.Gauge.{Gauge}
@@ -28,7 +28,7 @@ use Rattle.rows.specs.Row.{Believed, Written}
 use Rattle.rows.proofs.RowLine.{lift-small, Valued, words-part, words-length, words-at, words-some, row-of}
 use Rattle.costs.specs.Lines.{Priced, Ranked, column-value}
 use Rattle.costs.specs.Left.{Passed, ColumnsLeft, RowLeft, RowsLeft, RowMore}
-use Rattle.costs.proofs.ColumnLine.{known}
+use Rattle.costs.proofs.ColumnLine.{within-limit, known}
 
 -- a row of the board stands within its cells
 pub row-within : (w : ℕ) {h y : ℕ} → y < h → y * w + w ≤ w * h
@@ -39,6 +39,7 @@ module _ {g : Gauge} {w h y : ℕ} {costs : List ℕ} (scratch : List ℕ) (P : 
   -- what the rows' own laws ask of the words
   pub believed : Believed g y (y * w) (w * h) scratch w
   believed =
+      let (i₀, j₀, column-in, row-in, unmarked) = P .unmarked in
       record {
         known = known g (P .kind-in);
         row-in = omega (arith, P .sides .height-to);
@@ -50,9 +51,9 @@ module _ {g : Gauge} {w h y : ℕ} {costs : List ℕ} (scratch : List ℕ) (P : 
             λ i l.
             by-cases (ℕ-discrete (getD scratch (cell w i y) 0) mark) (λ e. inr e)
             (λ n. inl (omega (arith, C i l y y-in .named n .row-in, P .sides .height-to)));
-        i₀ = P .i₀;
-        i₀-in = P .column-in;
-        i₀-named = λ e. C (P .i₀) (P .column-in) y y-in .empty e (P .j₀) (P .row-in) (P .unmarked);
+        i₀ = i₀;
+        i₀-in = column-in;
+        i₀-named = λ e. C i₀ column-in y y-in .empty e j₀ row-in unmarked;
       }
 
   -- the words of the row, in the part that fill is lent, are the columns'
@@ -66,7 +67,7 @@ module _ {g : Gauge} {w h y : ℕ} {costs : List ℕ} (scratch : List ℕ) (P : 
       by-cases (ℕ-discrete (getD (words-part (y * w) w scratch) i 0) mark) (λ e. inr e)
       (λ n.
       let r = columns i l .named n .row-in in
-      inl (omega (arith, P .sides .height-to), omega (arith, cell-in l r, P .cells)))
+      inl (omega (arith, P .sides .height-to), omega (arith, cell-in l r, P .lent .picture-is)))
 
   -- the same over the length of that part, as fill asks it
   pub priced-part : (i : ℕ) → i < length (words-part (y * w) w scratch)
@@ -81,7 +82,7 @@ module _ {g : Gauge} {w h y : ℕ} {costs : List ℕ} (scratch : List ℕ) (P : 
       let N = columns i l .named n in
       let below : word < side-limit = omega (arith, N .row-in, P .sides .height-to) in
       let near : away y word < side-limit = lt-of-le-of-lt (apart-below y word) (omega (arith, P .sides .height-to)) in
-      omega (arith, lift-small (g .kind) near, P .costs-to i word l (N .row-in) (N .feature))
+      omega (arith, lift-small (g .kind) near, within-limit P i word l (N .row-in) (N .feature))
 
   module _ {values : List ℕ} (long : length values ≡ w)
       (R : Ranked (g .kind) y costs (words-part (y * w) w scratch) values) where
@@ -116,7 +117,7 @@ module _ {g : Gauge} {w h y : ℕ} {costs : List ℕ} (scratch : List ℕ) (P : 
           let some : believed .i₀ < length values = omega (arith, believed .i₀-in) in
           let row = row-of (known g (P .kind-in)) valued some (words-some believed) W O x (omega arith) in
           cost-step (g .kind) w h costs x y (λ i. getD (words-part (y * w) w scratch) i 0) (omega (arith, P .kind-in))
-          (lawful (g .kind) (omega (arith, P .kind-in))) (additive (g .kind) (P .kind-in)) columns (rw long at row)
+          (lawful (g .kind) (omega (arith, P .kind-in))) (additive (g .kind) (omega (arith, P .kind-in))) columns (rw long at row)
 
       -- the row made, from what the three steps leave
       pub row-more : (k : ℕ) (part : List ℕ)

@@ -2,27 +2,17 @@
 use mathlib.Core.Path.{_≡_}
 use mathlib.Core.Logic.{_≢_}
 use mathlib.Core.List.{List}
-use Prim.Native.Nat.{ℕ, _*_, _≤_, _<_}
-use lib.ListN.{length, getD}
-use Rattle.rules.specs.Limits.{cost-limit}
-use Rattle.rules.specs.Board.{Sides, cell, cost-at, Unmarked}
+use Prim.Native.Nat.{ℕ, _*_, _<_}
+use lib.ListN.{getD}
+use Rattle.rules.specs.Board.{cell, Unmarked}
 use Rattle.rules.specs.Refusals.{scratch-words}
+use Rattle.rules.specs.Accepted.{CostAccepted}
 use Rattle.rules.specs.Tie.{CostMapWord, CostMapSite}
-use Rattle.rules.specs.Columns.{ColumnWord}
-use Rattle.rules.proofs.Columns.{cost-rank}
+use Rattle.rules.specs.Columns.{ColumnWord, cost-rank}
 
--- a cost picture that has passed the tests: a board of a kind that costs have, each cell with a cost or the mark, and
--- one at least with a cost
-pub record Passed (kind w h : ℕ) (costs : List ℕ) : Type 0 where
-  pub kind-in : kind < 2
-  pub sides : Sides w h
-  pub cells : length costs ≡ w * h
-  pub costs-to : (i j : ℕ) → i < w → j < h → Unmarked w costs i j → cost-at w costs i j ≤ cost-limit
-  pub i₀ : ℕ
-  pub j₀ : ℕ
-  pub column-in : i₀ < w
-  pub row-in : j₀ < h
-  pub unmarked : Unmarked w costs i₀ j₀
+-- a cost picture that has passed the tests, with buffers of just its size
+abbrev pub Passed : ℕ → ℕ → ℕ → List ℕ → Type 0
+Passed kind w h costs = CostAccepted w h kind costs (w * h) (w * h) (scratch-words w h)
 
 -- column i has its words
 abbrev pub ColumnLeft : ℕ → ℕ → ℕ → List ℕ → List ℕ → ℕ → Type 0
@@ -52,8 +42,3 @@ RowsLeft kind w h costs distances sites y =
 pub record RowMore (kind w h y : ℕ) (costs before after distances sites : List ℕ) : Type 0 where
   pub made : RowLeft kind w h costs y (λ x. getD distances x 0) (λ x. getD sites x 0)
   pub kept : (k : ℕ) → k < w * h → getD after k 0 ≡ getD before k 0
-
--- the whole map, and the scratch all zero
-pub record Made (kind w h : ℕ) (costs distances sites scratch : List ℕ) : Type 0 where
-  pub rows : RowsLeft kind w h costs distances sites h
-  pub zeroed : (k : ℕ) → k < scratch-words w h → getD scratch k 0 ≡ 0

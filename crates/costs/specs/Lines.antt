@@ -8,7 +8,7 @@ use lib.Dec.{eqb}
 use lib.ListN.{length, getD}
 use Rattle.rules.specs.Limits.{side-limit, mark, line-limit}
 use Rattle.rules.specs.Board.{cell, cost-at}
-use Rattle.rules.proofs.Columns.{cost-rank}
+use Rattle.rules.specs.Columns.{cost-rank}
 
 -- the value of a cell in its column: its cost, or the line limit for a marked cell
 abbrev pub cell-value : ℕ → ℕ

@@ -1,9 +1,9 @@
 // The columns of a cost picture: the engine along each, from the costs to the column words.
 use envelope::Gauge;
 use envelope::engine::winners_of;
-use envelope::leaves::wide;
 use rules::LINE;
 use rules::MARK;
+use rules::wide;
 ghost use Prim.Native.Nat.{ℕ, _*_, _≤_, _<_};
 ghost use mathlib.Core.Path.{_≡_};
 ghost use lib.ListN.{length, getD};

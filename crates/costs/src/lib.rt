@@ -1,24 +1,24 @@
 // The public cost entry: its tests, then the engine along each column and along each row.
 use column::all_columns;
-use entry::buffers;
-use entry::sides;
+use entry::scratch_words;
+use entry::set_front;
 use envelope::Gauge;
 use row::all_rows;
 use rules::COST;
 use rules::MARK;
-ghost use Prim.Native.Nat.{ℕ, _*_, _<_};
+use rules::SIDE;
+ghost use Prim.Native.Nat.{_*_};
 ghost use mathlib.Core.Path.{_≡_};
-ghost use lib.ListN.{length, getD};
+ghost use lib.ListN.{length};
 ghost use Rattle.rules.specs.Limits.{side-limit};
-ghost use Rattle.rules.specs.Refusals.{any, bad-cost, all-marked, scratch-words};
-ghost use Rattle.rules.specs.Calls.{CostCall, buffers};
-ghost use Rattle.costs.specs.Left.{Passed, Made};
+ghost use Rattle.rules.specs.Tie.{CostMapWord, CostMapSite};
+ghost use Rattle.rules.specs.Refusals.{answer, any, bad-cost, all-marked, scratch-words, cost-rows};
+ghost use Rattle.rules.specs.Accepted.{CostAccepted};
+ghost use Rattle.rules.specs.Calls.{CostCall, MapLeft, buffers};
+ghost use Rattle.costs.specs.Left.{Passed, RowsLeft};
 
 mod column;
 mod row;
-
-// The places of the longest line.
-const SIDE: usize = rules::SIDE as usize;
 
 // A cost that is neither at most the limit nor the mark.
 fn bad_cost(cost: u32) -> bool
@@ -58,19 +58,41 @@ fn unpriced(costs: &[u32]) -> bool
     true
 }
 
-// Every word becomes 0.
-fn zero(words: &mut [u32])
-    ensures { λ _. ⌜ ((k : ℕ) → k < length (now (words .entry)) → getD (now (words .exit)) k 0 ≡ 0) ⌝ }
+// The number of the first row of the table that holds of a cost call, 0 for none: 1, 2, 4, 5, 6 in this order. The
+// buffers go by their lengths.
+fn refusal(
+    w: u32,
+    h: u32,
+    kind: u32,
+    costs: &[u32],
+    distances: usize,
+    sites: usize,
+    scratch: usize,
+) -> u32
+    ensures { λ r. ⌜ r ≡ answer (cost-rows w h kind (now (costs .entry)) distances sites scratch) ⌝ }
 {
-    let mut i = 0;
-    while i < words.len() {
-        words[i] = 0;
-        i += 1;
+    if entry::sides(w, h) {
+        return 1;
     }
+    if 1 < kind {
+        return 2;
+    }
+    let across = w as usize;
+    let down = h as usize;
+    if entry::buffers(across, down, costs.len(), distances, sites, scratch) {
+        return 4;
+    }
+    if overpriced(costs) {
+        return 5;
+    }
+    if unpriced(costs) {
+        return 6;
+    }
+    0
 }
 
-// The map of a cost picture that has passed the tests, in buffers of just its size: columns, then rows, on the line
-// that is lent. The columns' winners stand in the distances, which are free until the rows are written.
+// The rows of the map of a cost picture that has passed the tests, in buffers of just its size: columns, then rows, on
+// the line that is lent. The columns' winners stand in the distances, which are free until the rows are written.
 fn steps(
     g: Gauge,
     w: usize,
@@ -83,15 +105,13 @@ fn steps(
 )
     requires { ⌜ Passed (g .kind) w h (now costs) × (length (now line) ≡ side-limit) × (length (now distances) ≡ w * h)
         × (length (now sites) ≡ w * h) × (length (now scratch) ≡ scratch-words w h) ⌝ }
-    ensures { λ _. ⌜ Made (g .kind) w h (now (costs .entry)) (now (distances .exit)) (now (sites .exit))
-        (now (scratch .exit)) ⌝ }
+    ensures { λ _. ⌜ RowsLeft (g .kind) w h (now (costs .entry)) (now (distances .exit)) (now (sites .exit)) h ⌝ }
 {
     all_columns(g, w, costs, &mut line[..h], &mut distances[..h], scratch);
     all_rows(g, h, costs, &mut line[..w], scratch, distances, sites);
-    zero(scratch);
 }
 
-// The same on a line of its own.
+// The map of a cost picture that has passed the tests.
 fn make(
     g: Gauge,
     w: usize,
@@ -101,16 +121,28 @@ fn make(
     sites: &mut [u32],
     scratch: &mut [u32],
 )
-    requires { ⌜ Passed (g .kind) w h (now costs) × (length (now distances) ≡ w * h) × (length (now sites) ≡ w * h)
-        × (length (now scratch) ≡ scratch-words w h) ⌝ }
-    ensures { λ _. ⌜ Made (g .kind) w h (now (costs .entry)) (now (distances .exit)) (now (sites .exit))
-        (now (scratch .exit)) ⌝ }
+    requires { ⌜ CostAccepted w h (g .kind) (now costs) (length (now distances)) (length (now sites)) (length (now scratch)) ⌝ }
+    ensures { λ _. ⌜ MapLeft w h (CostMapWord (g .kind) w h (now (costs .entry))) (CostMapSite (g .kind) w h (now (costs .entry)))
+        (buffers (now (distances .entry)) (now (sites .entry)) (now (scratch .entry)))
+        (buffers (now (distances .exit)) (now (sites .exit)) (now (scratch .exit))) ⌝ }
 {
-    let mut line = [0u64; SIDE];
-    steps(g, w, h, costs, &mut line, distances, sites, scratch);
+    let mut line = [0u64; SIDE as usize];
+    let n = w * h;
+    let all = scratch_words(w, h);
+    steps(
+        g,
+        w,
+        h,
+        costs,
+        &mut line,
+        &mut distances[..n],
+        &mut sites[..n],
+        &mut scratch[..all],
+    );
+    set_front(scratch, all, 0);
 }
 
-// The map of a cost picture, of kind 0 or 1, or its refusal: 1, 2, 4, 5, 6 in this order.
+// The map of a cost picture, of kind 0 or 1: 0 where it is made, or the number of the first row of the table that holds.
 pub fn cost_map(
     w: u32,
     h: u32,
@@ -124,40 +156,19 @@ pub fn cost_map(
         (buffers (now (distances .entry)) (now (sites .entry)) (now (scratch .entry))) r
         (buffers (now (distances .exit)) (now (sites .exit)) (now (scratch .exit))) ⌝ }
 {
-    if sides(w, h) {
-        return 1;
-    }
-    if 1 < kind {
-        return 2;
-    }
-    let width = w as usize;
-    let height = h as usize;
-    if buffers(
-        width,
-        height,
-        costs.len(),
+    let refused = refusal(
+        w,
+        h,
+        kind,
+        costs,
         distances.len(),
         sites.len(),
         scratch.len(),
-    ) {
-        return 4;
-    }
-    if overpriced(costs) {
-        return 5;
-    }
-    if unpriced(costs) {
-        return 6;
-    }
-    let cells = width * height;
-    let total = cells + 2 * width + 2 * height;
-    make(
-        Gauge { kind },
-        width,
-        height,
-        costs,
-        &mut distances[..cells],
-        &mut sites[..cells],
-        &mut scratch[..total],
     );
+    if refused != 0 {
+        return refused;
+    }
+    let g = Gauge { kind };
+    make(g, w as usize, h as usize, costs, distances, sites, scratch);
     0
 }

@@ -1,11 +1,13 @@
-// What the entries on boards test first: the rows of document 01's table that a board can break. Each function answers
-// whether its row holds.
+// What the entries on boards share: the rows of document 01's table that a board can break, each function answering
+// whether its row holds, and the words that are set when a map is done.
 use rules::SIDE;
 use rules::WEIGHT;
-ghost use Prim.Native.Nat.{_*_, _≤_};
+ghost use Prim.Native.Nat.{ℕ, _≤_, _<_};
 ghost use mathlib.Core.Path.{_≡_};
+ghost use lib.ListN.{length, getD};
 ghost use Rattle.rules.specs.Limits.{side-limit};
-ghost use Rattle.rules.specs.Refusals.{any, bad-sides, bad-weights, bad-buffers, bad-byte, no-bore};
+ghost use Rattle.rules.specs.Refusals.{any, bad-sides, bad-weights, scratch-words, bad-buffers, bad-byte, no-bore};
+ghost use Rattle.rules.specs.Calls.{Beyond};
 
 // 1: a side is 0 or above the limit.
 pub fn sides(w: u32, h: u32) -> bool
@@ -42,6 +44,14 @@ pub fn weights(kind: u32, d1: u32, d2: u32) -> bool
     2 * d1 < d2
 }
 
+// "scratch (at least W·H + 2W + 2H)"
+pub fn scratch_words(w: usize, h: usize) -> usize
+    requires { ⌜ (w ≤ side-limit) × (h ≤ side-limit) ⌝ }
+    ensures { λ r. ⌜ r ≡ scratch-words w h ⌝ }
+{
+    w * h + 2 * w + 2 * h
+}
+
 // 4: the picture has another length than W·H, or a buffer is below its minimum.
 pub fn buffers(
     w: usize,
@@ -64,7 +74,7 @@ pub fn buffers(
     if sites < cells {
         return true;
     }
-    scratch < cells + 2 * w + 2 * h
+    scratch < scratch_words(w, h)
 }
 
 // 5: a byte of the picture is neither 0 nor 1.
@@ -93,4 +103,24 @@ pub fn boreless(picture: &[u8]) -> bool
         i += 1;
     }
     true
+}
+
+// Every word set to one value.
+pub fn set_all(words: &mut [u32], value: u32)
+    ensures { λ _. ⌜ ((k : ℕ) → k < length (now (words .entry)) → getD (now (words .exit)) k 0 ≡ value) ⌝ }
+{
+    let mut k = 0;
+    while k < words.len() {
+        words[k] = value;
+        k += 1;
+    }
+}
+
+// The first n words set to one value.
+pub fn set_front(words: &mut [u32], n: usize, value: u32)
+    requires { ⌜ n ≤ length (now words) ⌝ }
+    ensures { λ _. ⌜ ((k : ℕ) → k < n → getD (now (words .exit)) k 0 ≡ value)
+        × Beyond n (now (words .entry)) (now (words .exit)) ⌝ }
+{
+    set_all(&mut words[..n], value);
 }

@@ -57,6 +57,7 @@ module _ (height : ℕ → ℕ → ℕ) where
         first = t0;
         on-line = λ k h. let z : k ≡ 0 = omega arith in subst (λ j. t j < n) (sym z) (omega arith);
         rising = λ k h. absurd (omega arith);
+        order = λ k h. absurd (omega arith);
         few = le-refl 1;
         winner = λ k x w. subst (λ i. Wins height 1 x i) (sym (holder k (w .stretch-in))) (alone x);
       }
@@ -179,6 +180,7 @@ module _ (height : ℕ → ℕ → ℕ) where
               first = first-start kept refl;
               on-line = λ k h. split (λ a. t′ a < n) k h (λ l. subst (λ a. a < n) (sym (T .starts-stay k l)) (S .on-line k (left l))) (omega (arith, start));
               rising = λ k h. rises k h;
+              order = λ k h. ordered k h;
               few = omega (arith, number, most, S .few);
               winner = λ k x w. won k x w;
             }
@@ -213,6 +215,16 @@ module _ (height : ℕ → ℕ → ℕ) where
                 let here : t′ k ≡ t k = T .starts-stay k l in
                 ⊎-elim (λ b. omega (arith, b .1, S .rising k (omega (arith, most, b .0)))) (λ e. omega (arith, e .1, start-before k (e .0)))
                 (next-start k l)
+
+            -- u comes after every holder
+            ordered : (k : ℕ) → k + 1 < m′ → s′ k < s′ (k + 1)
+            ordered k h =
+                let l : k < kept = omega (arith, number) in
+                let here : s′ k ≡ s k = T .holders-stay k l in
+                ⊎-elim
+                (λ e. subst (λ a. s′ k < s′ a) (sym e) (omega (arith, here, T .on-line on .2, holder-in k (left l))))
+                (λ b. omega (arith, here, T .holders-stay (k + 1) b, S .order k (omega (arith, most))))
+                (eq-or-lt-of-le (omega arith))
 
             before-place : (k x : ℕ) → k < kept → x < t′ (k + 1) → x < T .place
             before-place k x l h = by-last kept refl
@@ -260,6 +272,9 @@ module _ (height : ℕ → ℕ → ℕ) where
               rising =
                   λ k h.
                   omega (arith, T .starts-stay k (left (omega arith)), T .starts-stay (k + 1) (left h), S .rising k (omega (arith, number, all)));
+              order =
+                  λ k h.
+                  omega (arith, T .holders-stay k (left (omega arith)), T .holders-stay (k + 1) (left h), S .order k (omega (arith, number, all)));
               few = omega (arith, number, all, S .few);
               winner = λ k x w. won k x w;
             }

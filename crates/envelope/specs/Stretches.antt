@@ -34,6 +34,7 @@ pub record Stretches (height : ℕ → ℕ → ℕ) (n u m : ℕ) (t s : ℕ →
   pub first : t 0 ≡ 0
   pub on-line : (k : ℕ) → k < m → t k < n
   pub rising : (k : ℕ) → k + 1 < m → t k < t (k + 1)
+  pub order : (k : ℕ) → k + 1 < m → s k < s (k + 1)
   pub few : m ≤ u
   pub winner : (k x : ℕ) → Within n m t k x → Wins height u x (s k)
 

@@ -3,7 +3,7 @@
 use crate::Gauge;
 use crate::leaves::height;
 use crate::leaves::place;
-use crate::leaves::wide;
+use rules::wide;
 ghost use Prim.Native.Nat.{ℕ, _+_, _≤_, _<_};
 ghost use mathlib.Core.Path.{_≡_};
 ghost use lib.Dec.{leb};

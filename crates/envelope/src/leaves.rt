@@ -11,13 +11,6 @@ ghost use Rattle.rules.specs.Measures.{HoldsAt, measure};
 ghost use Rattle.envelope.specs.Line.{measured, Known, Line, height-at};
 ghost use Rattle.envelope.specs.Stretches.{Pair, Last, Place};
 
-// A stored word as an index.
-pub fn wide(word: u32) -> usize
-    ensures { λ r. ⌜ r ≡ word ⌝ }
-{
-    word as usize
-}
-
 // |x − i|
 pub fn apart(x: usize, i: usize) -> usize
     ensures { λ r. ⌜ r ≡ away x i ⌝ }

@@ -10,13 +10,14 @@ use native.Mathlib.Nat.{mul-le-mul-left}
 use native.Mathlib.Omega.{arith}
 use lib.Dec.{lit<}
 use lib.ListN.{length, take, drop, take-append-drop, List·getD-append}
-use lib.Seq.{length-take-le, length-front, getD-take, take-append-le, drop-at, ext-getD}
+use lib.Seq.{length-take-le, getD-take, take-append-le, ext-getD}
 use Rattle.rules.specs.Board.{cell, Sides}
 use Rattle.rules.specs.Refusals.{answer, any, bad-sides, bad-buffers, bad-byte, no-bore, picture-rows, lane-rows}
 use Rattle.rules.specs.Accepted.{LaneAccepted}
 use Rattle.rules.specs.Tie.{MapWord}
-use Rattle.rules.specs.Calls.{Buffers, buffers, Beyond, PictureLeft, LaneLeft, LaneCall}
+use Rattle.rules.specs.Calls.{Buffers, buffers, PictureLeft, LaneLeft, LaneCall}
 use Rattle.rules.proofs.Board.{cell-in}
+use Rattle.rules.proofs.Parts.{front-beyond}
 use Rattle.rules.proofs.Refusals.{kind-good, weights-good, or-first, lane-row-by-row}
 use Rattle.maps.proofs.Rows.{cells-few}
 use Rattle.lane.specs.Around.{Rows, Lists}
@@ -42,15 +43,6 @@ as-left n list part room long same =
     (ext-getD 0 part (take n list) (long ∙ sym (length-take-le n list room))
     (λ i h. same i (omega arith) ∙ sym (getD-take n list i 0 (omega arith))))
     ∙ take-append-drop n list
-
--- beyond the first words a list is as it was
-front-beyond : (n : ℕ) (list part : List ℕ) → length part ≡ length (take n list) → n ≤ length list
-    → Beyond n list (part ++ drop n list)
-front-beyond n list part long room =
-    record {
-      as-long = length-front list part n long;
-      untouched = drop-at part (drop n list) n (long ∙ length-take-le n list room);
-    }
 
 module _ (w h : ℕ) (picture : List ℕ) (from to : ℕ) where
   -- where no test of a lane call holds, none of the map call holds
@@ -145,6 +137,6 @@ module _ (w h : ℕ) (picture : List ℕ) (from to : ℕ) where
             cells-is = ap length cells-of ∙ length-take-le cells part (omega (arith, laid .cells-in, board-long));
             marked =
                 λ k l m. List·getD-append part (drop (w * h) path) 0 k (omega (arith, board-long)) ∙ laid .marked k l m;
-            path-beyond = front-beyond (w * h) path part part-long (A .path-from);
+            path-beyond = front-beyond path part (A .path-from) board-long;
             map-left = rw scratch-back M;
           }

@@ -1,28 +1,12 @@
 // The flood: labels and a queue of cell numbers, each as long as the board.
 use crate::sides::beside;
+use entry::set_all;
+use rules::wide;
 ghost use Prim.Native.Nat.{ℕ, _+_, _^_, _<_};
 ghost use mathlib.Core.Path.{_≡_};
 ghost use lib.ListN.{length};
 ghost use Rattle.lane.specs.Around.{Lists};
 ghost use Rattle.lane.specs.Labelling.{at, Labels, Flow, Touched};
-
-// A stored word as an index.
-pub fn wide(word: u32) -> usize
-    ensures { λ r. ⌜ r ≡ word ⌝ }
-{
-    word as usize
-}
-
-// Every word of a list becomes `word`.
-pub fn fill(list: &mut [u32], word: u32)
-    ensures { λ _. ⌜ ((k : ℕ) → k < length (now (list .entry)) → at (now (list .exit)) k ≡ word) ⌝ }
-{
-    let mut i = 0;
-    while i < list.len() {
-        list[i] = word;
-        i += 1;
-    }
-}
 
 // The cell p, if it is one, comes up with the label d. Answers how many cells have entered the queue.
 fn touch(
@@ -102,7 +86,7 @@ pub fn flood(w: usize, v: u32, to: usize, words: &[u32], labels: &mut [u32], que
     requires { ⌜ Lists w (now words) (now labels) (now queue) × (to < length (now words)) ⌝ }
     ensures { λ _. ⌜ Labels w (length (now (words .entry))) (at (now (words .entry))) v to (at (now (labels .exit))) ⌝ }
 {
-    fill(labels, 0);
+    set_all(labels, 0);
     if words[to] < v {
         return;
     }

@@ -1,8 +1,8 @@
 // The lane: a flood from the far end, the width by halving, and a walk down the labels of a last flood.
-use crate::flood::fill;
 use crate::flood::flood;
 use crate::walk::walk;
 use crate::widths::width_of;
+use entry::set_all;
 use maps::picture_map;
 use rules::LaneAnswer;
 use rules::MARK;
@@ -11,7 +11,7 @@ ghost use mathlib.Core.Path.{_≡_};
 ghost use lib.ListN.{length};
 ghost use Rattle.rules.specs.Refusals.{answer, lane-rows};
 ghost use Rattle.rules.specs.Answers.{lane-number, lane-width, lane-cells};
-ghost use Rattle.rules.specs.Calls.{buffers, LaneCall};
+ghost use Rattle.rules.specs.Calls.{buffers, LaneLeft, LaneCall};
 ghost use Rattle.lane.specs.Around.{Lists};
 ghost use Rattle.lane.specs.Labelling.{at};
 ghost use Rattle.lane.specs.Course.{Laid};
@@ -43,33 +43,38 @@ fn best_lane(
     let width = width_of(w, from, to, words, labels, path);
     flood(w, width, to, words, labels, path);
     let cells = walk(w, from, labels, path);
-    fill(labels, 0);
-    fill(&mut path[cells..], MARK);
+    set_all(labels, 0);
+    set_all(&mut path[cells..], MARK);
     Course {
         width,
         cells: cells as u32,
     }
 }
 
-// The number of the first row of the table that holds of a lane call, 0 for none. The buffers go by their lengths.
-fn refusal(
+// What is asked: the board's sides, and the cells that the lane joins.
+struct Asked {
     w: u32,
     h: u32,
-    picture: &[u8],
     from: u32,
     to: u32,
+}
+
+// The number of the first row of the table that holds of a lane call, 0 for none. The buffers go by their lengths.
+fn refusal(
+    a: Asked,
+    picture: &[u8],
     distances: usize,
     sites: usize,
     scratch: usize,
     path: usize,
 ) -> u32
-    ensures { λ r. ⌜ r ≡ answer (lane-rows w h (now (picture .entry)) from to distances sites scratch path) ⌝ }
+    ensures { λ r. ⌜ r ≡ answer (lane-rows (a .w) (a .h) (now (picture .entry)) (a .from) (a .to) distances sites scratch path) ⌝ }
 {
-    if entry::sides(w, h) {
+    if entry::sides(a.w, a.h) {
         return 1;
     }
-    let across = w as usize;
-    let down = h as usize;
+    let across = a.w as usize;
+    let down = a.h as usize;
     let cells = across * down;
     if entry::buffers(across, down, picture.len(), distances, sites, scratch) {
         return 4;
@@ -83,13 +88,42 @@ fn refusal(
     if entry::boreless(picture) {
         return 6;
     }
-    if cells <= from as usize {
+    if cells <= a.from as usize {
         return 7;
     }
-    if cells <= to as usize {
+    if cells <= a.to as usize {
         return 7;
     }
     0
+}
+
+// The lane of a call that no row refuses: the kind 0 map, whose own tests then pass too, and the best lane over its words.
+fn lay(
+    a: Asked,
+    picture: &[u8],
+    distances: &mut [u32],
+    sites: &mut [u32],
+    scratch: &mut [u32],
+    path: &mut [u32],
+) -> Course
+    requires { ⌜ answer (lane-rows (a .w) (a .h) (now picture) (a .from) (a .to) (length (now distances))
+        (length (now sites)) (length (now scratch)) (length (now path))) ≡ 0 ⌝ }
+    ensures { λ r. ⌜ LaneLeft (a .w) (a .h) (now (picture .entry)) (a .from) (a .to)
+        (buffers (now (distances .entry)) (now (sites .entry)) (now (scratch .entry))) (now (path .entry))
+        (r .width) (r .cells)
+        (buffers (now (distances .exit)) (now (sites .exit)) (now (scratch .exit))) (now (path .exit)) ⌝ }
+{
+    picture_map(a.w, a.h, 0, 0, 0, picture, distances, sites, scratch);
+    let w = a.w as usize;
+    let n = w * (a.h as usize);
+    best_lane(
+        w,
+        a.from as usize,
+        a.to as usize,
+        &distances[..n],
+        &mut scratch[..n],
+        &mut path[..n],
+    )
 }
 
 // The widest lane from one cell to another: its width and its number of cells, or the number of the first row of the
@@ -110,12 +144,10 @@ pub fn widest(
         (lane-number r) (lane-width r) (lane-cells r)
         (buffers (now (distances .exit)) (now (sites .exit)) (now (scratch .exit))) (now (path .exit)) ⌝ }
 {
+    let a = Asked { w, h, from, to };
     let refused = refusal(
-        w,
-        h,
+        a,
         picture,
-        from,
-        to,
         distances.len(),
         sites.len(),
         scratch.len(),
@@ -124,17 +156,7 @@ pub fn widest(
     if refused != 0 {
         return LaneAnswer::Refused(refused);
     }
-    // its tests have passed above, so it answers 0
-    picture_map(w, h, 0, 0, 0, picture, distances, sites, scratch);
-    let n = (w as usize) * (h as usize);
-    let course = best_lane(
-        w as usize,
-        from as usize,
-        to as usize,
-        &distances[..n],
-        &mut scratch[..n],
-        &mut path[..n],
-    );
+    let course = lay(a, picture, distances, sites, scratch, path);
     LaneAnswer::Found {
         width: course.width,
         cells: course.cells,

@@ -1,6 +1,6 @@
 // The walk down the labels of a flood.
-use crate::flood::wide;
 use crate::sides::beside;
+use rules::wide;
 ghost use Prim.Native.Nat.{_<_};
 ghost use mathlib.Core.Path.{_≡_};
 ghost use lib.ListN.{length};

@@ -1,13 +1,16 @@
 // The public picture entry: the tests in the paper's order, then the map.
 use chamfer::scan_map;
 use columns::sweep;
+use entry::scratch_words;
+use entry::set_front;
 use envelope::Gauge;
 use lines::all_rows;
-use lines::set_all;
 use rules::MARK;
 ghost use Prim.Native.Nat.{ℕ, _<_};
+ghost use mathlib.Core.Path.{_≡_};
 ghost use lib.ListN.{length};
 ghost use Rattle.rules.specs.Measures.{chamfer-kind};
+ghost use Rattle.rules.specs.Refusals.{answer, picture-rows};
 ghost use Rattle.rules.specs.Accepted.{PictureAccepted};
 ghost use Rattle.rules.specs.Calls.{buffers, PictureLeft, PictureCall};
 
@@ -31,8 +34,7 @@ fn row_map(
 {
     sweep(w, h, 0, w, picture, scratch);
     all_rows(Gauge { kind }, w, h, distances, sites, scratch);
-    let all = w * h + 2 * w + 2 * h;
-    set_all(&mut scratch[..all], 0);
+    set_front(scratch, scratch_words(w, h), 0);
 }
 
 // The map of kind 3: the two scans, no site named, and the scratch set to zero.
@@ -52,10 +54,62 @@ fn scanned_map(
         (buffers (now (distances .exit)) (now (sites .exit)) (now (scratch .exit))) ⌝ }
 {
     scan_map(w, h, d1, d2, picture, distances);
-    let n = w * h;
-    set_all(&mut sites[..n], MARK);
-    let all = n + 2 * w + 2 * h;
-    set_all(&mut scratch[..all], 0);
+    set_front(sites, w * h, MARK);
+    set_front(scratch, scratch_words(w, h), 0);
+}
+
+// What is asked: the board's sides, the kind, and the weights, which only kind 3 reads.
+struct Asked {
+    w: u32,
+    h: u32,
+    kind: u32,
+    d1: u32,
+    d2: u32,
+}
+
+// The number of the first row of the table that holds of a picture call, 0 for none. The buffers go by their lengths.
+fn refusal(a: Asked, picture: &[u8], distances: usize, sites: usize, scratch: usize) -> u32
+    ensures { λ r. ⌜ r ≡ answer (picture-rows (a .w) (a .h) (a .kind) (a .d1) (a .d2) (now (picture .entry))
+        distances sites scratch) ⌝ }
+{
+    if entry::sides(a.w, a.h) {
+        return 1;
+    }
+    if 3 < a.kind {
+        return 2;
+    }
+    if entry::weights(a.kind, a.d1, a.d2) {
+        return 3;
+    }
+    let w = a.w as usize;
+    let h = a.h as usize;
+    if entry::buffers(w, h, picture.len(), distances, sites, scratch) {
+        return 4;
+    }
+    if entry::bytes(picture) {
+        return 5;
+    }
+    if entry::boreless(picture) {
+        return 6;
+    }
+    0
+}
+
+// The map of a picture that has passed the tests.
+fn make(a: Asked, picture: &[u8], distances: &mut [u32], sites: &mut [u32], scratch: &mut [u32])
+    requires { ⌜ PictureAccepted (a .w) (a .h) (a .kind) (a .d1) (a .d2) (now picture) (length (now distances))
+        (length (now sites)) (length (now scratch)) ⌝ }
+    ensures { λ _. ⌜ PictureLeft (a .w) (a .h) (a .kind) (a .d1) (a .d2) (now (picture .entry))
+        (buffers (now (distances .entry)) (now (sites .entry)) (now (scratch .entry)))
+        (buffers (now (distances .exit)) (now (sites .exit)) (now (scratch .exit))) ⌝ }
+{
+    let w = a.w as usize;
+    let h = a.h as usize;
+    if a.kind == 3 {
+        scanned_map(w, h, a.d1, a.d2, picture, distances, sites, scratch);
+        return;
+    }
+    row_map(w, h, a.kind, picture, distances, sites, scratch);
 }
 
 // The map of a picture: 0 where it is made, or the number of the first row of the table that holds.
@@ -74,52 +128,11 @@ pub fn picture_map(
         (buffers (now (distances .entry)) (now (sites .entry)) (now (scratch .entry)))
         r (buffers (now (distances .exit)) (now (sites .exit)) (now (scratch .exit))) ⌝ }
 {
-    if entry::sides(w, h) {
-        return 1;
+    let a = Asked { w, h, kind, d1, d2 };
+    let refused = refusal(a, picture, distances.len(), sites.len(), scratch.len());
+    if refused != 0 {
+        return refused;
     }
-    if 3 < kind {
-        return 2;
-    }
-    if entry::weights(kind, d1, d2) {
-        return 3;
-    }
-    if entry::buffers(
-        w as usize,
-        h as usize,
-        picture.len(),
-        distances.len(),
-        sites.len(),
-        scratch.len(),
-    ) {
-        return 4;
-    }
-    if entry::bytes(picture) {
-        return 5;
-    }
-    if entry::boreless(picture) {
-        return 6;
-    }
-    if kind == 3 {
-        scanned_map(
-            w as usize,
-            h as usize,
-            d1,
-            d2,
-            picture,
-            distances,
-            sites,
-            scratch,
-        );
-        return 0;
-    }
-    row_map(
-        w as usize,
-        h as usize,
-        kind,
-        picture,
-        distances,
-        sites,
-        scratch,
-    );
+    make(a, picture, distances, sites, scratch);
     0
 }

@@ -1,10 +1,9 @@
-// The rows of a map: every row line, and the words that are set when the map is done.
+// The rows of a map: every row line.
 use envelope::Gauge;
 use rows::row_line;
 use rules::SIDE;
-ghost use Prim.Native.Nat.{ℕ, _+_, _*_, _≤_, _<_};
-ghost use mathlib.Core.Path.{_≡_};
-ghost use lib.ListN.{length, getD};
+ghost use Prim.Native.Nat.{_+_, _*_, _≤_};
+ghost use lib.ListN.{length};
 ghost use Rattle.rules.specs.Board.{Sides};
 ghost use Rattle.envelope.specs.Line.{Known};
 ghost use Rattle.maps.specs.Rows.{Believable, RowsMade};
@@ -42,16 +41,5 @@ pub fn all_rows(
         );
         at = end;
         y += 1;
-    }
-}
-
-// Every word set to one value.
-pub fn set_all(words: &mut [u32], value: u32)
-    ensures { λ _. ⌜ ((k : ℕ) → k < length (now (words .entry)) → getD (now (words .exit)) k 0 ≡ value) ⌝ }
-{
-    let mut k = 0;
-    while k < words.len() {
-        words[k] = value;
-        k += 1;
     }
 }

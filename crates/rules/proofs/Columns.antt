@@ -18,9 +18,9 @@ use native.Mathlib.Nat.{le-antisymm, zero-add}
 use native.Mathlib.Decide.{decLe, decLt, ℕ-discrete}
 use native.Mathlib.Omega.{arith}
 use Rattle.rules.specs.Limits.{mark}
-use Rattle.rules.specs.Board.{cell, away, Bored, cost-at, Unmarked}
+use Rattle.rules.specs.Board.{cell, away, Bored, Unmarked}
 use Rattle.rules.specs.Measures.{Measure, distance, chamfer-kind, measure, Lawful, Additive}
-use Rattle.rules.specs.Columns.{Nearest, ColumnWord, RowWord}
+use Rattle.rules.specs.Columns.{Nearest, ColumnWord, RowWord, cost-rank}
 use Rattle.rules.specs.Tie.{Least, Site, bore-word, cost-word, MapWord, MapSite, CostMapWord, CostMapSite}
 
 -- a column has one nearest row
@@ -212,10 +212,6 @@ picture-step kind d1 d2 w h picture x y words l law columns r =
     words (λ i. measure kind .lift (away y (words i))) x columns (λ i k a. simp parts)
     (λ i j j′ k. simp parts (law .keeps _ _ _ (law .rises _ _ k))) (λ i j j′ k. k) (λ i j j′ e e′. e′) r in
     (s .0, record { i = r .i; j = words (r .i); site-is = r .site-is; rule = s .1 })
-
--- what the features of a cost picture are ranked by as seen from row y
-abbrev pub cost-rank : ℕ → ℕ → List ℕ → ℕ → ℕ → ℕ → ℕ
-cost-rank kind w costs y i j = measure kind .lift (away y j) + cost-at w costs i j
 
 -- where costs are added, columns that combine to the same hold the same
 same-value : {m : Measure} → Additive m → (dx v v′ : ℕ) → m .combine dx v ≡ m .combine dx v′ → v ≡ v′

@@ -1,11 +1,12 @@
 -- A part of a list that is lent and comes back: the elements of the part by their places in the whole, and of the whole
 -- after the part has come back. Assumes nothing.
-use mathlib.Core.Path.{_≡_, _∙_, sym, ap}
+use mathlib.Core.Path.{_≡_, _∙_, sym, ap, subst}
 use mathlib.Core.List.{List, _++_}
 use Prim.Native.Nat.{ℕ, _+_, _-_, _≤_, _<_}
 use native.Mathlib.Omega.{arith}
 use lib.ListN.{length, getD, take, drop, length-drop, List·getD-append}
-use lib.Seq.{length-take-le, getD-take, getD-drop, getD-append-add}
+use lib.Seq.{length-take-le, length-front, getD-take, getD-drop, getD-append-add, drop-drop, drop-at}
+use Rattle.rules.specs.Calls.{Beyond}
 use borrow.Rule.Slice.PartMut.{putMid, postOf, take-put, drop-put}
 
 -- the length of the part from a to e
@@ -35,3 +36,26 @@ put-after {a} {e} s ys {j} h l n below =
     let at : e + (j - e) ≡ j = omega arith in
     ap (λ k. getD (putMid a (e - a) s ys) k 0) (sym at) ∙ sym (getD-drop e (putMid a (e - a) s ys) (j - e) 0)
     ∙ ap (λ t. getD t (j - e) 0) (drop-put a e s ys h l n) ∙ getD-drop e s (j - e) 0 ∙ ap (λ k. getD s k 0) at
+
+-- a list whose first n words have come back is as it was beyond them
+pub front-beyond : {n : ℕ} (l front : List ℕ) → n ≤ length l → length front ≡ n → Beyond n l (front ++ drop n l)
+front-beyond {n} l front h e =
+    record {
+      as-long = length-front l front n (e ∙ sym (length-take-le n l h));
+      untouched = drop-at front (drop n l) n e;
+    }
+
+-- what is untouched from place n on is untouched from any later place on
+pub beyond-more : {n m : ℕ} {before after : List ℕ} → n ≤ m → Beyond n before after → Beyond m before after
+beyond-more {n} {m} {before} {after} h B =
+    let e : n + (m - n) ≡ m = omega arith in
+    record {
+      as-long = B .as-long;
+      untouched =
+          subst (λ k. drop k after ≡ drop k before) e
+          (sym (drop-drop (m - n) n after) ∙ ap (drop (m - n)) (B .untouched) ∙ drop-drop (m - n) n before);
+    }
+
+-- and through two steps
+pub beyond-both : {n : ℕ} {a b c : List ℕ} → Beyond n a b → Beyond n b c → Beyond n a c
+beyond-both B C = record { as-long = C .as-long ∙ B .as-long; untouched = C .untouched ∙ B .untouched }

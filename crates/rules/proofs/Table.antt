@@ -17,13 +17,8 @@ use lib.IntN.{ℤ, pos, negsuc, natAbs, _+ℤ_, +ℤ-idr, -ℤ-one, -ℤ-+ℤ-ca
 use Rattle.rules.specs.Board.{away}
 use Rattle.rules.proofs.Board.{away-self, away-zero}
 use Rattle.rules.specs.Measures.{chamfer, Weights}
-use Rattle.rules.specs.Table.{step, back, none, on, steps, weight}
+use Rattle.rules.specs.Table.{step, back, none, on, steps, weight, Leads}
 use Rattle.rules.specs.declared.Step.{Step}
-
--- the step s leads from the cell (x, y) to the cell (x′, y′)
-pub record Leads (s : Step) (x y x′ y′ : ℕ) : Type 0 where
-  pub across : pos x′ ≡ pos x +ℤ s .1
-  pub down : pos y′ ≡ pos y +ℤ s .0
 
 -- A walk from the cell (i, j) over a board of w columns and h rows, with the cell that it ends in and what its steps
 -- weigh together: each step is an entry of the table and leads to a cell of the board.

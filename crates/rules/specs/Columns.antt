@@ -3,9 +3,11 @@
 -- cost for costs. Assumes nothing.
 use mathlib.Core.Path.{_≡_}
 use mathlib.Core.Logic.{_≢_}
-use Prim.Native.Nat.{ℕ, _≤_, _<_}
+use mathlib.Core.List.{List}
+use Prim.Native.Nat.{ℕ, _+_, _≤_, _<_}
 use Rattle.rules.specs.Limits.{mark}
-use Rattle.rules.specs.Board.{cell, away}
+use Rattle.rules.specs.Board.{cell, away, cost-at}
+use Rattle.rules.specs.Measures.{measure}
 
 -- "G(x, y) is the least dy to a bore in column x": j is the row where it is attained, the upper one on a tie. Over
 -- `rank` in place of dy the same serves costs.
@@ -19,6 +21,10 @@ pub record Nearest (h : ℕ) (Feature : ℕ → Type 0) (rank : ℕ → ℕ) (j 
 pub record ColumnWord (h : ℕ) (Feature : ℕ → Type 0) (rank : ℕ → ℕ) (word : ℕ) : Type 0 where
   pub named : word ≢ mark → Nearest h Feature rank word
   pub empty : word ≡ mark → (j : ℕ) → j < h → Feature j → ⊥
+
+-- what the features of a cost picture are ranked by as seen from row y
+abbrev pub cost-rank : ℕ → ℕ → List ℕ → ℕ → ℕ → ℕ → ℕ
+cost-rank kind w costs y i j = measure kind .lift (away y j) + cost-at w costs i j
 
 -- What a row line makes of the words of its row, whoever put them there: over the columns that are not marked, the
 -- least of combine(|x − i|, value i), and the cell that the least such column names. `value i` is what the column's

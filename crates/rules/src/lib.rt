@@ -1,5 +1,6 @@
 // The written rules of the board: the limits, and the types that settings and answers have. What the numbers mean is
 // in `specs/`, each definition under the sentence of document 01 that it renders.
+ghost use mathlib.Core.Path.{_≡_};
 ghost use Rattle.rules.specs.Limits.{Stated};
 
 // "Width W and height H are each 1 to 512."
@@ -56,6 +57,13 @@ pub fn limits() -> LimitTable
         file: FILE,
         line: LINE,
     }
+}
+
+// A stored word as an index of a list.
+pub fn wide(word: u32) -> usize
+    ensures { λ r. ⌜ r ≡ word ⌝ }
+{
+    word as usize
 }
 
 // "A setting is two f32 values, pitch and radius, in millimetres."

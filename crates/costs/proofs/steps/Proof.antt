@@ -1,4 +1,4 @@
--- `costs::steps` meets its contract: every column, then every row, then zeros. The line and the distances that the
+-- `costs::steps` meets its contract: every column, then every row. The line and the distances that the
 -- columns work in are as long afterwards, and the rows work on what the columns leave in the scratch. Assumes nothing.
 use mathlib.Core.Path.{_≡_, _∙_, sym}
 use mathlib.Core.List.{_++_}
@@ -74,9 +74,6 @@ all-rows-requires c κs =
       p .3,
     )
 
-zero-requires : tie.Need-zero-requires
-zero-requires c κs = search needs
-
 same-length : tie.Need-same-length
 same-length c = search needs
 
@@ -91,13 +88,9 @@ same-length-4 c = search needs
 
 returns : tie.Need-returns
 returns c =
-    let r = c .before .before .before .before .before .before .before .before .before .before .before .before in
+    let r = c .before .before .before .before .before .before .before .before in
     let m = r .before .before .before .before .before .before .before .before .before .before .before in
-    let long = r .all-rows .kept .1 .1 .1 .1 .0 ∙ m .all-columns .kept .1 .1 .1 .1 .1 .0 ∙ start m .pre .4 in
-    record {
-      rows = rw (line-across m) at (r .all-rows .ensures);
-      zeroed = λ k l. c .before .before .zero .ensures k (omega (arith, long));
-    }
+    rw (line-across m) at (r .all-rows .ensures)
 
 pub steps-spec : {M : Type 1} → statement M
 steps-spec =
@@ -111,7 +104,6 @@ steps-spec =
     slice-relend-prefix-all-rows
     slice-aggregate-all-rows
     all-rows-requires
-    zero-requires
     same-length
     same-length-2
     same-length-3

@@ -64,25 +64,25 @@ walk-requires c κs =
     let f = c .before .before .before .before .before .before in
     walkable (lists-2 f) (entry (measured f) .pre .1) (measured f .width-of .ensures) (f .flood .ensures)
 
-fill-requires : tie.Need-fill-requires
-fill-requires c κs = tt
+set-all-requires : tie.Need-set-all-requires
+set-all-requires c κs = tt
 
-mul-fill : tie.Need-mul-fill
-mul-fill c =
+mul-set-all : tie.Need-mul-set-all
+mul-set-all c =
     let t = c .before .before .before .before .before .before in
     omega (arith, few t, entry (measured (flooded t)) .pre .0 .board .to)
 
-sub-fill : tie.Need-sub-fill
-sub-fill c = let t = c .before .before .before .before .before .before in omega (arith, few t, lists-3 t)
+sub-set-all : tie.Need-sub-set-all
+sub-set-all c = let t = c .before .before .before .before .before .before in omega (arith, few t, lists-3 t)
 
-part-fill-start : tie.Need-part-fill-start
-part-fill-start c = let t = c .before .before .before .before .before .before in omega (arith, few t, lists-3 t)
+part-set-all-start : tie.Need-part-set-all-start
+part-set-all-start c = let t = c .before .before .before .before .before .before in omega (arith, few t, lists-3 t)
 
-part-fill-end : tie.Need-part-fill-end
-part-fill-end c = le-refl _
+part-set-all-end : tie.Need-part-set-all-end
+part-set-all-end c = le-refl _
 
-fill-requires-2 : tie.Need-fill-requires-2
-fill-requires-2 c κs = tt
+set-all-requires-2 : tie.Need-set-all-requires-2
+set-all-requires-2 c κs = tt
 
 cast-t29 : tie.Need-cast-t29
 cast-t29 c =
@@ -93,14 +93,14 @@ same-length : tie.Need-same-length
 same-length c =
     let z = c .before .before .before .before .before .before in
     let t = z .before .before .before .before in
-    z .fill .kept .0 ∙ lists-3 t .labels-long ∙ sym (entry (measured (flooded t)) .pre .0 .labels-long)
+    z .set-all .kept .0 ∙ lists-3 t .labels-long ∙ sym (entry (measured (flooded t)) .pre .0 .labels-long)
 
 same-length-2 : tie.Need-same-length-2
 same-length-2 c =
     let m = c .before .before in
     let t = m .before .before .before .before .before .before .before .before in
     let path = t .walk .last .1 .1 .1 .0 in
-    same-len-mid (t .walk .result) (length path - t .walk .result) path (m .fill2 .last .0) (m .fill2 .kept .0)
+    same-len-mid (t .walk .result) (length path - t .walk .result) path (m .set-all2 .last .0) (m .set-all2 .kept .0)
     ∙ lists-3 t .queue-long ∙ sym (entry (measured (flooded t)) .pre .0 .queue-long)
 
 returns : tie.Need-returns
@@ -110,7 +110,7 @@ returns c =
     let t = z .before .before .before .before in
     let f = flooded t in
     laid (lists-3 t) (entry (measured f) .pre .1) (measured f .width-of .ensures) (f .flood .ensures) (t .walk .ensures)
-    (m .fill2 .last .0) (z .fill .ensures) (m .fill2 .kept .0) (m .fill2 .ensures)
+    (m .set-all2 .last .0) (z .set-all .ensures) (m .set-all2 .kept .0) (m .set-all2 .ensures)
 
 pub best-lane-spec : {M : Type 1} → statement M
 best-lane-spec =
@@ -119,12 +119,12 @@ best-lane-spec =
     width-of-requires
     flood-requires
     walk-requires
-    fill-requires
-    mul-fill
-    sub-fill
-    part-fill-start
-    part-fill-end
-    fill-requires-2
+    set-all-requires
+    mul-set-all
+    sub-set-all
+    part-set-all-start
+    part-set-all-end
+    set-all-requires-2
     cast-t29
     same-length
     same-length-2

@@ -71,7 +71,7 @@ returns-3 : tie.Need-returns-3
 returns-3 c =
     let e = c .before .before in
     taken (read e .entry .ensures) _ (across (e .before .before .before .before)) (down (e .before)) (there e)
-    (c .before .offer-of .ensures) (start e .pre .3) (c .if3 .taken)
+    (c .before .offer-of .ensures) (c .if3 .taken)
 
 returns-4 : tie.Need-returns-4
 returns-4 c =

@@ -1,17 +1,18 @@
 -- `chamfer::neighbours::lowest` meets its contract. The loop's invariant: `best` is the least over the entries before
--- `k`. The measure is what is left of the entries. Assumes nothing.
-use Prim.Native.Nat.{_-_, _<_}
+-- `k`, which is none past the last. The measure is what is left of the entries. Assumes nothing.
+use Prim.Native.Nat.{_-_, _≤_, _<_}
+use native.Mathlib.Nat.{le-refl, le-antisymm}
 use native.Mathlib.Omega.{arith}
 use lib.ListN.{length}
 use Rattle.rules.specs.Board.{cell}
 use Rattle.chamfer.specs.Neighbours.{Lowest}
 use Rattle.chamfer.proofs.Cells.{has-word}
-use Rattle.chamfer.proofs.Taking.{own-word, one-more, all-taken}
+use Rattle.chamfer.proofs.Taking.{own-word, one-more}
 use Rattle.chamfer.proofs.neighbours.lowest.Statement.{statement}
 use Rattle.chamfer.proofs.neighbours.lowest.Tie as tie
 
 abbrev Inv-loop : tie.InvT-loop
-Inv-loop b words x y from to w best₀ k₀ best k = Lowest b words x y from k best
+Inv-loop b words x y from to w best₀ k₀ best k = Lowest b words x y from k best × (from ≤ k) × (k ≤ to)
 
 abbrev μ-loop : tie.MeasureT-loop
 μ-loop b words x y from to w best₀ k₀ best k = to - k
@@ -33,7 +34,7 @@ shared-slice-read-best : tie.Need-shared-slice-read-best Inv-loop μ-loop
 shared-slice-read-best c = within (c .before .before)
 
 loop-holds : tie.Need-loop-holds Inv-loop μ-loop
-loop-holds c = own-word
+loop-holds c = (own-word, le-refl _, omega arith)
 
 lesser-requires : tie.Need-lesser-requires Inv-loop μ-loop
 lesser-requires c κs =
@@ -47,10 +48,14 @@ loop-less : tie.Need-loop-less Inv-loop μ-loop
 loop-less c = omega arith
 
 loop-again : tie.Need-loop-again Inv-loop μ-loop
-loop-again c = one-more (c .before .before .loop .inv) (c .lesser .ensures)
+loop-again c =
+    let i = c .before .before .loop .inv in
+    (one-more (i .1) (i .0) (c .lesser .ensures), omega arith, omega arith)
 
 returns : tie.Need-returns Inv-loop μ-loop
-returns c = all-taken (c .before .loop .inv) (c .loop-test .left)
+returns c =
+    let (least, _, no-past) = c .before .loop .inv in
+    rw (le-antisymm no-past (c .loop-test .left)) at least
 
 pub lowest-spec : {M : Type 1} → statement M
 lowest-spec =

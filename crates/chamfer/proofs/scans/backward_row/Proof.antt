@@ -31,7 +31,7 @@ sub-x c = omega arith
 
 relax-requires : tie.Need-relax-requires Inv-loop μ-loop
 relax-requires c κs =
-    (c .before .before .before .before .pre .0, c .before .before .loop .inv .1 .words, here (c .before), omega arith)
+    (c .before .before .before .before .pre .0, c .before .before .loop .inv .1 .words, here (c .before), omega arith, omega arith)
 
 loop-less : tie.Need-loop-less Inv-loop μ-loop
 loop-less c = omega arith

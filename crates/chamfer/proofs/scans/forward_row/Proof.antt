@@ -25,7 +25,7 @@ loop-holds c = (omega arith, stay (c .before .pre .1))
 
 relax-requires : tie.Need-relax-requires Inv-loop μ-loop
 relax-requires c κs =
-    (c .before .before .before .before .pre .0, c .before .before .loop .inv .1 .words, here (c .before), omega arith)
+    (c .before .before .before .before .pre .0, c .before .before .loop .inv .1 .words, here (c .before), omega arith, omega arith)
 
 add-x : tie.Need-add-x Inv-loop μ-loop
 add-x c = omega arith

@@ -5,7 +5,7 @@ use Prim.Native.Nat.{_+_, _-_, _*_, _≤_}
 use native.Mathlib.Omega.{arith}
 use lib.ListN.{length, getD}
 use borrow.Rule.Slice.PartMut.{putMid, same-len-mid}
-use Rattle.rules.proofs.Columns.{cost-rank}
+use Rattle.rules.specs.Columns.{cost-rank}
 use Rattle.rows.specs.Row.{Believed}
 use Rattle.rows.proofs.RowLine.{Valued, words-part, words-length, tail-length, words-some, words-stay, line-of}
 use Rattle.rows.proofs.RowLine.{chosen-of}

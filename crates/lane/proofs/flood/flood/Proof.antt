@@ -12,15 +12,15 @@ use Rattle.lane.proofs.flood.flood.Statement.{statement}
 use Rattle.lane.proofs.flood.flood.Tie as tie
 
 -- the way back from the cleared labels to the entry
-abbrev entry : tie.After-fill → tie.Start
+abbrev entry : tie.After-set-all → tie.Start
 entry c = c .before .before .before .before .before
 
 -- the way back from the far end's word to the cleared labels
-abbrev cleared : tie.After-shared-slice-known2 → tie.After-fill
+abbrev cleared : tie.After-shared-slice-known2 → tie.After-set-all
 cleared c = c .before .before .before
 
-fill-requires : tie.Need-fill-requires
-fill-requires c κs = search needs
+set-all-requires : tie.Need-set-all-requires
+set-all-requires c κs = search needs
 
 mul-if1 : tie.Need-mul-if1
 mul-if1 c = search needs
@@ -35,7 +35,7 @@ returns : tie.Need-returns
 returns c =
     let f = cleared (c .before) in
     let p = entry f .pre in
-    none-labelled (c .if1 .taken) (λ k h. f .fill .ensures k (omega (arith, p .0 .labels-long)))
+    none-labelled (c .if1 .taken) (λ k h. f .set-all .ensures k (omega (arith, p .0 .labels-long)))
 
 mul-labels : tie.Need-mul-labels
 mul-labels c = search needs
@@ -56,17 +56,17 @@ flow-requires c κs =
     let p = entry f .pre in (
       record {
         board = p .0 .board;
-        labels-long = simp length-set (f .fill .kept .0 ∙ p .0 .labels-long);
+        labels-long = simp length-set (f .set-all .kept .0 ∙ p .0 .labels-long);
         queue-long = simp length-set (p .0 .queue-long);
       },
-      begun (entry f .args .words .now) (f .fill .last .0) (entry f .args .queue .now) (f .fill .kept .0 ∙ p .0 .labels-long)
-          (p .0 .queue-long) (p .1) (e .if1 .left) (λ k h. f .fill .ensures k (omega (arith, f .fill .kept .0))),
+      begun (entry f .args .words .now) (f .set-all .last .0) (entry f .args .queue .now) (f .set-all .kept .0 ∙ p .0 .labels-long)
+          (p .0 .queue-long) (p .1) (e .if1 .left) (λ k h. f .set-all .ensures k (omega (arith, f .set-all .kept .0))),
     )
 
 same-length-2 : tie.Need-same-length-2
 same-length-2 c =
     let t = c .before .before .before .before in
-    t .flow .kept .1 .1 .1 .0 ∙ simp length-set (cleared (t .before .before .before .before) .fill .kept .0)
+    t .flow .kept .1 .1 .1 .0 ∙ simp length-set (cleared (t .before .before .before .before) .set-all .kept .0)
 
 same-length-3 : tie.Need-same-length-3
 same-length-3 c = let t = c .before .before .before .before in t .flow .kept .1 .1 .1 .1 .0 ∙ simp length-set
@@ -85,7 +85,7 @@ pub flood-spec : {M : Type 1} → statement M
 flood-spec =
     tie.close
     (tie.spec
-    fill-requires
+    set-all-requires
     mul-if1
     shared-slice-read-if1
     same-length

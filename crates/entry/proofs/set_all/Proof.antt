@@ -1,12 +1,12 @@
--- `maps::lines::set_all` meets its contract. The loop's invariant: the words before k are set. The measure is what is left.
+-- `entry::set_all` meets its contract. The loop's invariant: the words before k are set. The measure is what is left.
 -- Assumes nothing.
 use mathlib.Core.Path.{refl}
 use Prim.Native.Nat.{_-_, _≤_}
 use native.Mathlib.Omega.{arith}
 use lib.ListN.{length}
 use Rattle.rules.proofs.Filling.{Filling, filling-none, filling-more}
-use Rattle.maps.proofs.lines.set_all.Statement.{statement}
-use Rattle.maps.proofs.lines.set_all.Tie as tie
+use Rattle.entry.proofs.set_all.Statement.{statement}
+use Rattle.entry.proofs.set_all.Tie as tie
 
 abbrev Inv-loop : tie.InvT-loop
 Inv-loop words₀ value k₀ words k = Filling (λ _. value) words₀ words k × (k ≤ length words₀)

@@ -12,7 +12,7 @@ use borrow.Author.Count.{below-more}
 use Rattle.rules.specs.Lane.{Neighbours}
 use Rattle.rules.proofs.Lane.{neighbours-sym}
 use Rattle.lane.specs.Around.{Lies, Side}
-use Rattle.lane.specs.Labelling.{Labels, marks, Flow, Sided}
+use Rattle.lane.specs.Labelling.{Led, Labels, marks, Flow, Sided}
 use Rattle.lane.proofs.Around.{around}
 use Rattle.lane.proofs.Marks.{marks-le, marks-more}
 
@@ -256,7 +256,7 @@ module _ {w n : ℕ} {word : ℕ → ℕ} {v to : ℕ} where
               by-cases (ℕ-discrete q p) (λ e. absurd (omega (arith, ap label′ e, F .labelled head more)))
               (λ o. F .last q h (omega (arith, others q o)))
 
-          lesser : (q : ℕ) → q < n → 1 < label′ q → (r : ℕ) × (r < n) × Neighbours w q r × (label′ r + 1 ≡ label′ q)
+          lesser : Led w n label′
           lesser q h l =
               by-cases (ℕ-discrete q p)
               (λ e. (

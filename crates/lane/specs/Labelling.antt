@@ -11,9 +11,13 @@ use Rattle.lane.specs.Around.{Lies}
 abbrev pub at : List ℕ → ℕ → ℕ
 at list c = getD list c 0
 
--- each label but 1 has the next lesser one beside it, and none is above n: a walk down the labels can go on
+-- each label but 1 has the next lesser one beside it
+abbrev pub Led : ℕ → ℕ → (ℕ → ℕ) → Type 0
+Led w n label = (p : ℕ) → p < n → 1 < label p → (q : ℕ) × (q < n) × Neighbours w p q × (label q + 1 ≡ label p)
+
+-- so it is, and no label is above n: a walk down the labels can go on
 pub record Descending (w n : ℕ) (label : ℕ → ℕ) : Type 0 where
-  pub lesser : (p : ℕ) → p < n → 1 < label p → (q : ℕ) × (q < n) × Neighbours w p q × (label q + 1 ≡ label p)
+  pub lesser : Led w n label
   pub few : (p : ℕ) → p < n → label p ≤ n
 
 -- the labels that a flood leaves on n cells in rows of w
@@ -46,7 +50,7 @@ pub record Flow (w n : ℕ) (word : ℕ → ℕ) (v to : ℕ) (label queue : ℕ
   pub small : (i : ℕ) → i < tail → label (queue i) ≤ i + 1
   pub wide : (p : ℕ) → p < n → 0 < label p → v ≤ word p
   pub last : (p : ℕ) → p < n → label p ≡ 1 → p ≡ to
-  pub lesser : (p : ℕ) → p < n → 1 < label p → (q : ℕ) × (q < n) × Neighbours w p q × (label q + 1 ≡ label p)
+  pub lesser : Led w n label
   pub done : (i p : ℕ) → i < head → p < n → Neighbours w (queue i) p → v ≤ word p
       → (0 < label p) × (label p ≤ label (queue i) + 1)
 

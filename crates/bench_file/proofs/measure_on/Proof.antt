@@ -1,0 +1,115 @@
+-- `bench_file::measure_on` meets its contract: the file's picture is bored; where it has no bore the answer is 6, and
+-- otherwise the map is made, and the first of its greatest words is the farthest. Assumes nothing.
+use mathlib.Core.Path.{_≡_, _∙_, sym, subst}
+use Prim.Native.Nat.{_*_}
+use lib.ListN.{length}
+use Rattle.rules.specs.Limits.{bench-side}
+use Rattle.rules.specs.BenchFile.{bored-by}
+use Rattle.rules.specs.Calls.{buffers, PictureLeft}
+use Rattle.bench_file.specs.Reading.{Peak}
+use Rattle.bench_file.proofs.Answering.{six, read-call, picture-of, count-of, map-answers, farthest-of}
+use borrow.Author.Needs.{needs}
+use Rattle.bench_file.proofs.measure_on.Statement.{statement}
+use Rattle.bench_file.proofs.measure_on.Tie as tie
+
+-- the way back from the boring to the entry
+abbrev entry : tie.After-bore → tie.Start
+entry c = c .before .before .before .before .before .before .before
+
+-- the way back from the map to the test of 6, and from there to the boring
+abbrev tested : tie.After-picture-map → tie.Else1
+tested c = c .before .before .before .before .before
+
+abbrev bored : tie.After-boreless → tie.After-bore
+bored c = c .before .before .before .before
+
+-- what is bored is the file's picture
+picture-is : (c : tie.After-bore) → c .bore .last .1 .0 ≡ bored-by (entry c .args .file .now)
+picture-is c = picture-of (entry c .args .file .now) (entry c .pre .1 .sound) (c .bore .ensures)
+
+-- the map is made
+mapped : (c : tie.After-picture-map) → let b = bored (tested c .before) in
+    let a = entry b .args in
+    PictureLeft bench-side bench-side 0 0 0 (b .bore .last .1 .0)
+    (buffers (a .distances .now) (a .sites .now) (a .scratch .now))
+    (buffers (c .picture-map .last .1 .1 .1 .1 .1 .1 .0) (c .picture-map .last .1 .1 .1 .1 .1 .1 .1 .0)
+    (c .picture-map .last .1 .1 .1 .1 .1 .1 .1 .1 .0))
+mapped c =
+    let b = bored (tested c .before) in
+    let r = entry b .pre .1 in
+    c .picture-map .ensures .done
+    (c .picture-map .ensures .answered
+    ∙ map-answers (entry b .args .file .now) (picture-is b) (sym (tested c .before .boreless .ensures) ∙ tested c .if1 .left)
+    (r .distances-is) (r .sites-is) (r .scratch-is))
+
+bore-requires : tie.Need-bore-requires
+bore-requires c κs = search needs
+
+boreless-requires : tie.Need-boreless-requires
+boreless-requires c κs = search needs
+
+same-length : tie.Need-same-length
+same-length c = search needs
+
+returns : tie.Need-returns
+returns c =
+    let b = bored (c .before) in
+    six (entry b .args .file .now) (entry b .pre .0) (picture-is b) (sym (c .before .boreless .ensures) ∙ c .if1 .taken)
+
+picture-map-requires : tie.Need-picture-map-requires
+picture-map-requires c κs = search needs
+
+peak-requires : tie.Need-peak-requires
+peak-requires c κs = search needs
+
+mul-farthest : tie.Need-mul-farthest
+mul-farthest c = search needs
+
+slice-read-farthest : tie.Need-slice-read-farthest
+slice-read-farthest c = search needs
+
+cast-cell : tie.Need-cast-cell
+cast-cell c = search needs
+
+same-length-2 : tie.Need-same-length-2
+same-length-2 c = search needs
+
+same-length-3 : tie.Need-same-length-3
+same-length-3 c = search needs
+
+same-length-4 : tie.Need-same-length-4
+same-length-4 c = search needs
+
+same-length-5 : tie.Need-same-length-5
+same-length-5 c = search needs
+
+returns-2 : tie.Need-returns-2
+returns-2 c =
+    let m = c .before .before .before .before .before .before .before .before .before in
+    let t = tested m in
+    let b = bored (t .before) in
+    let M = mapped m in
+    let words = m .picture-map .last .1 .1 .1 .1 .1 .1 .0 in
+    let long : length words ≡ bench-side * bench-side = M .distances-beyond .as-long ∙ entry b .pre .1 .distances-is in
+    read-call (entry b .args .file .now) (entry b .pre .0) (picture-is b) (sym (t .before .boreless .ensures) ∙ t .if1 .left)
+    (count-of (entry b .pre .1 .sound) (b .bore .ensures))
+    (farthest-of (M .words) (subst (λ n. Peak words n (c .before .peak .result)) long (c .before .peak .ensures)))
+
+pub measure-on-spec : {M : Type 1} → statement M
+measure-on-spec =
+    tie.close
+    (tie.spec
+    bore-requires
+    boreless-requires
+    same-length
+    returns
+    picture-map-requires
+    peak-requires
+    mul-farthest
+    slice-read-farthest
+    cast-cell
+    same-length-2
+    same-length-3
+    same-length-4
+    same-length-5
+    returns-2)

@@ -1,0 +1,84 @@
+-- `bench_file::records::off_board` meets its contract. The loop's invariant: 11 holds of the file where it holds of the
+-- records from i on. The measure is what is left of the file. Assumes nothing.
+use mathlib.Core.Path.{_≡_, refl, _∙_, sym}
+use Prim.Native.Nat.{_-_, _≤_}
+use native.Mathlib.Omega.{arith}
+use lib.ListN.{length, drop, length-drop}
+use Rattle.rules.specs.BenchFile.{outside}
+use Rattle.rules.proofs.Refusals.{holds-unless}
+use Rattle.bench_file.proofs.FileRecords.{record-inside, record-passes, outside-end}
+use Rattle.bench_file.proofs.records.off_board.Statement.{statement}
+use Rattle.bench_file.proofs.records.off_board.Tie as tie
+
+abbrev Inv-loop : tie.InvT-loop
+Inv-loop file i₀ i = (outside file ≡ outside (drop i file)) × (i ≤ length file)
+
+abbrev μ-loop : tie.MeasureT-loop
+μ-loop file i₀ i = length file - i
+
+loop-holds : tie.Need-loop-holds Inv-loop μ-loop
+loop-holds c = (refl, omega arith)
+
+sub-loop : tie.Need-sub-loop Inv-loop μ-loop
+sub-loop c = omega arith
+
+coordinate-requires : tie.Need-coordinate-requires Inv-loop μ-loop
+coordinate-requires c κs = omega arith
+
+returns : tie.Need-returns Inv-loop μ-loop
+returns c =
+    let file = c .before .before .before .before .before .args .file .now in
+    let i = c .before .before .before .loop .i in
+    sym (c .before .before .before .loop .inv .0
+    ∙ holds-unless (outside (drop i file)) (λ e. omega (arith, record-inside file i (c .before .before .loop-test .taken) e .0)))
+
+add-coordinate : tie.Need-add-coordinate Inv-loop μ-loop
+add-coordinate c = omega arith
+
+coordinate-requires-2 : tie.Need-coordinate-requires-2 Inv-loop μ-loop
+coordinate-requires-2 c κs = omega arith
+
+returns-2 : tie.Need-returns-2 Inv-loop μ-loop
+returns-2 c =
+    let file = c .before .before .before .before .before .before .before .args .file .now in
+    let l = c .before .before .before .before in
+    let i = l .before .loop .i in
+    sym (l .before .loop .inv .0
+    ∙ holds-unless (outside (drop i file)) (λ e. omega (arith, record-inside file i (l .loop-test .taken) e .1)))
+
+add-i : tie.Need-add-i Inv-loop μ-loop
+add-i c = omega arith
+
+loop-less : tie.Need-loop-less Inv-loop μ-loop
+loop-less c = omega arith
+
+loop-again : tie.Need-loop-again Inv-loop μ-loop
+loop-again c =
+    let file = c .before .before .before .before .before .before .before .args .file .now in
+    let l = c .before .before .before .before in
+    let i = l .before .loop .i in
+    (l .before .loop .inv .0 ∙ record-passes file i (l .loop-test .taken) (omega arith) (omega arith), omega arith)
+
+returns-3 : tie.Need-returns-3 Inv-loop μ-loop
+returns-3 c =
+    let file = c .before .before .before .args .file .now in
+    let i = c .before .loop .i in
+    sym (c .before .loop .inv .0 ∙ outside-end (drop i file) (omega (arith, length-drop i file)))
+
+pub off-board-spec : {M : Type 1} → statement M
+off-board-spec =
+    tie.close
+    (tie.spec
+    Inv-loop
+    μ-loop
+    loop-holds
+    sub-loop
+    coordinate-requires
+    returns
+    add-coordinate
+    coordinate-requires-2
+    returns-2
+    add-i
+    loop-less
+    loop-again
+    returns-3)

@@ -1,0 +1,2 @@
+pub mod Boring
+pub mod Reading

@@ -1,10 +1,12 @@
 -- `bench_file::measure_on` meets its contract: the file's picture is bored; where it has no bore the answer is 6, and
 -- otherwise the map is made, and the first of its greatest words is the farthest. Assumes nothing.
 use mathlib.Core.Path.{_≡_, _∙_, sym, subst}
+use mathlib.Core.Bool.{false}
 use Prim.Native.Nat.{_*_}
 use lib.ListN.{length}
 use Rattle.rules.specs.Limits.{bench-side}
 use Rattle.rules.specs.BenchFile.{bored-by}
+use Rattle.rules.specs.Refusals.{no-bore}
 use Rattle.rules.specs.Calls.{buffers, PictureLeft}
 use Rattle.bench_file.specs.Reading.{Peak}
 use Rattle.bench_file.proofs.Answering.{six, read-call, picture-of, count-of, map-answers, farthest-of}
@@ -27,6 +29,10 @@ bored c = c .before .before .before .before
 picture-is : (c : tie.After-bore) → c .bore .last .1 .0 ≡ bored-by (entry c .args .file .now)
 picture-is c = picture-of (entry c .args .file .now) (entry c .pre .1 .sound) (c .bore .ensures)
 
+-- past the test of 6 it has a bore
+has-bore : (c : tie.Else1) → no-bore (bored (c .before) .bore .last .1 .0) ≡ false
+has-bore c = sym (c .before .boreless .ensures) ∙ c .if1 .left
+
 -- the map is made
 mapped : (c : tie.After-picture-map) → let b = bored (tested c .before) in
     let a = entry b .args in
@@ -37,10 +43,9 @@ mapped : (c : tie.After-picture-map) → let b = bored (tested c .before) in
 mapped c =
     let b = bored (tested c .before) in
     let r = entry b .pre .1 in
-    c .picture-map .ensures .done
-    (c .picture-map .ensures .answered
-    ∙ map-answers (entry b .args .file .now) (picture-is b) (sym (tested c .before .boreless .ensures) ∙ tested c .if1 .left)
-    (r .distances-is) (r .sites-is) (r .scratch-is))
+    let answers = map-answers (entry b .args .file .now) (picture-is b) (has-bore (tested c)) (r .distances-is)
+    (r .sites-is) (r .scratch-is) in
+    c .picture-map .ensures .done (c .picture-map .ensures .answered ∙ answers)
 
 bore-requires : tie.Need-bore-requires
 bore-requires c κs = search needs
@@ -91,7 +96,7 @@ returns-2 c =
     let M = mapped m in
     let words = m .picture-map .last .1 .1 .1 .1 .1 .1 .0 in
     let long : length words ≡ bench-side * bench-side = M .distances-beyond .as-long ∙ entry b .pre .1 .distances-is in
-    read-call (entry b .args .file .now) (entry b .pre .0) (picture-is b) (sym (t .before .boreless .ensures) ∙ t .if1 .left)
+    read-call (entry b .args .file .now) (entry b .pre .0) (picture-is b) (has-bore t)
     (count-of (entry b .pre .1 .sound) (b .bore .ensures))
     (farthest-of (M .words) (subst (λ n. Peak words n (c .before .peak .result)) long (c .before .peak .ensures)))
 

@@ -1,0 +1,4 @@
+// The bench program on a row of 64.
+fn main() {
+    bench_run::run();
+}

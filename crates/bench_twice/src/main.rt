@@ -1,0 +1,4 @@
+// The bench program on records that are repeated.
+fn main() {
+    bench_run::run();
+}

@@ -251,7 +251,7 @@ counted (b ∷ bs) zero e = rw e (omega arith)
 counted (b ∷ bs) (suc c) e = omega (arith, counted bs c e)
 
 -- a bench file that was read has a bored cell
-sites-not-zero : {bytes : List ℕ} {farthest number : ℕ} → BenchRead bytes 0 farthest number → ⊥
+pub sites-not-zero : {bytes : List ℕ} {farthest number : ℕ} → BenchRead bytes 0 farthest number → ⊥
 sites-not-zero {bytes} r =
     let a = r .farthest-is .attained in
     omega (arith, r .sites-is, counted (bored-by bytes) (cell bench-side (a .i) (a .j)) (a .feature))

@@ -1,5 +1,4 @@
-// The sample boards of document 01 through the public entries, a line for each. The samples of the bench file wait for
-// their entry.
+// The samples of document 01 through the public entries, a line for each.
 use boards::board;
 use boards::chamfer_board;
 use boards::show_003;
@@ -8,6 +7,7 @@ use boards::show_cell;
 use boards::show_largest;
 use changeovers::show_changeover;
 use courses::show_lane;
+use files::show_file;
 use knobs::show_clear;
 use knobs::show_value;
 use prices::show_costs;
@@ -17,6 +17,7 @@ use rules::SIDE;
 mod boards;
 mod changeovers;
 mod courses;
+mod files;
 mod knobs;
 mod prices;
 mod text;
@@ -90,4 +91,6 @@ fn main() {
     show_clear();
     lines_of_costs();
     lanes();
+    show_file(b"bench file, the record (0, 0)", &[0, 0, 0, 0]);
+    show_file(b"bench file, empty", b"");
 }

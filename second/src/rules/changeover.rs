@@ -2,6 +2,7 @@
 
 use super::limits::{COLUMN, VALUE};
 use super::refusals::tested;
+use crate::generator::Generator;
 
 /// All that decides a changeover.
 #[derive(Clone, Copy)]
@@ -13,6 +14,13 @@ pub struct ChangeoverCall {
 }
 
 impl ChangeoverCall {
+    /// A call on random columns with values below `reach`. It is accepted if those are.
+    pub fn random(reach: u32, generator: &mut Generator) -> ChangeoverCall {
+        let u = 1 + generator.below(COLUMN);
+        let i = generator.below(u);
+        ChangeoverCall { i, u, a: generator.below(reach), b: generator.below(reach) }
+    }
+
     pub fn refusal(&self) -> Result<(), u32> {
         let over = self.a > VALUE || self.b > VALUE;
         tested(&[(9, self.i >= self.u || self.u > COLUMN || over)])
@@ -29,7 +37,6 @@ impl ChangeoverCall {
 #[cfg(test)]
 mod tests {
     use super::*;
-    use crate::generator::Generator;
 
     fn asked(i: u32, u: u32, a: u32, b: u32) -> Result<i128, u32> {
         ChangeoverCall { i, u, a, b }.answer()
@@ -61,11 +68,9 @@ mod tests {
     fn the_floor_is_the_greatest_that_holds() {
         let mut generator = Generator::new(1);
         for _ in 0..10_000 {
-            let i = generator.below(COLUMN);
-            let u = i + 1 + generator.below(COLUMN - i);
-            let (a, b) = (generator.below(VALUE + 1), generator.below(VALUE + 1));
-            let p = asked(i, u, a, b).unwrap();
-            let [i, u, a, b] = [i, u, a, b].map(i128::from);
+            let call = ChangeoverCall::random(VALUE + 1, &mut generator);
+            let p = call.answer().unwrap();
+            let [i, u, a, b] = [call.i, call.u, call.a, call.b].map(i128::from);
             let holds = |p: i128| (p - i) * (p - i) + a <= (p - u) * (p - u) + b;
             assert!(holds(p) && !holds(p + 1));
         }

@@ -1,121 +1,113 @@
-//! Times the archive's maps against the programs that the sources print. A report, not a test.
+//! Times every entry of the archive against a plain program. A report, not a test; but programs that
+//! do not give the same answer are not timed, and end it with the exit status 1.
 //!
 //! usage: bench
 //!
-//! Prints a table for docs/BENCH.md.
+//! Prints the two tables of docs/BENCH.md.
 
 #![forbid(unsafe_code)]
 
+mod boards;
+mod contest;
+mod off_board;
+mod on_boards;
 mod plain;
+mod table;
 
-use olavinthu::{Board, Buffers, Measure};
-use plain::Plain;
-use second::generator::Generator;
-use second::pictures;
-use std::time::{Duration, Instant};
+use boards::{Drawing, TURN};
+use contest::{times, Times, TURNS};
+use off_board::{Changeovers, Openings};
+use olavinthu::{Board, Measure};
+use on_boards::{ClearMaps, Lanes, Maps};
+use second::rules::limits::SIDE;
+use std::process::ExitCode;
 
-const LARGEST: u32 = 512;
-const SIDES: [u32; 3] = [64, 256, LARGEST];
+const SIDES: [u32; 3] = [64, 256, SIDE];
 
-/// Each map of the largest side is made this often; smaller ones more often, so that every row of
-/// the table takes about the same time.
-const RUNS: u32 = 20;
+/// An entry on boards, and how its turns on one drawing are timed.
+type OnBoards = (&'static str, fn(Board, Drawing) -> Result<Times, usize>);
 
-const MEASURES: [(&str, Measure); 4] = [
-    ("0 Euclid", Measure::EUCLID),
-    ("1 Manhattan", Measure::MANHATTAN),
-    ("2 chessboard", Measure::CHESSBOARD),
-    ("3 chamfer 3, 4", Measure::chamfer(3, 4)),
+const ON_BOARDS: [OnBoards; 8] = [
+    ("`olv_map` 0 Euclid", |board, drawing| maps(board, drawing, Measure::EUCLID)),
+    ("`olv_map` 1 Manhattan", |board, drawing| maps(board, drawing, Measure::MANHATTAN)),
+    ("`olv_map` 2 chessboard", |board, drawing| maps(board, drawing, Measure::CHESSBOARD)),
+    ("`olv_map` 3 chamfer 3, 4", |board, drawing| maps(board, drawing, Measure::chamfer(3, 4))),
+    ("`olv_cost_map` 0 Euclid", |board, drawing| cost_maps(board, drawing, Measure::EUCLID)),
+    ("`olv_cost_map` 1 Manhattan", |board, drawing| cost_maps(board, drawing, Measure::MANHATTAN)),
+    ("`olv_lane`", |board, drawing| times(&mut Lanes::new(board), &drawing.pictures(board))),
+    ("`olv_clear`", clear_maps),
 ];
 
-/// The pictures that are timed, with their names.
-fn timed_pictures(board: Board) -> [(&'static str, Vec<u8>); 4] {
-    let middle = (board.width / 2, board.height / 2);
-    [
-        ("one bore", pictures::bored_at(board, &[middle])),
-        ("chequerboard", pictures::chequerboard(board)),
-        ("diagonal", pictures::diagonal(board)),
-        ("random, 1 in 50", pictures::random(board, 50, &mut Generator::new(1))),
-    ]
+fn maps(board: Board, drawing: Drawing, measure: Measure) -> Result<Times, usize> {
+    times(&mut Maps::of_pictures(board, measure), &drawing.pictures(board))
 }
 
-/// The archive with the lists that it is lent, all of them made before the first run.
-struct Ours {
-    board: Board,
-    distances: Vec<u32>,
-    sites: Vec<u32>,
-    scratch: Vec<u32>,
+fn cost_maps(board: Board, drawing: Drawing, measure: Measure) -> Result<Times, usize> {
+    times(&mut Maps::of_costs(board, measure), &drawing.costs(board))
 }
 
-impl Ours {
-    fn new(board: Board) -> Ours {
-        Ours {
-            board,
-            distances: vec![0; board.cells()],
-            sites: vec![0; board.cells()],
-            scratch: vec![0; board.scratch_words()],
-        }
-    }
-
-    fn map(&mut self, measure: Measure, picture: &[u8]) {
-        let buffers = Buffers {
-            distances: &mut self.distances,
-            sites: &mut self.sites,
-            scratch: &mut self.scratch,
-        };
-        olavinthu::map(self.board, measure, picture, buffers).expect("the picture is good");
-    }
+fn clear_maps(board: Board, drawing: Drawing) -> Result<Times, usize> {
+    let pictures = drawing.pictures(board);
+    let squares = pictures.iter().map(|picture| ClearMaps::squares(board, picture));
+    times(&mut ClearMaps::new(board), &squares.collect::<Vec<_>>())
 }
 
-fn timed(work: impl FnOnce()) -> Duration {
-    let start = Instant::now();
-    work();
-    start.elapsed()
-}
+/// An entry without a board, and how its turns are timed.
+type OffBoard = (&'static str, fn() -> Result<Times, usize>);
 
-/// The best times of both programs for one map. They take turns, so that a change of the machine's
-/// pace meets both.
-fn best_times(
-    ours: &mut Ours,
-    plain: &mut Plain,
-    measure: Measure,
-    picture: &[u8],
-) -> (Duration, Duration) {
-    let runs = RUNS * (LARGEST / ours.board.width).pow(2);
-    let mut best = (Duration::MAX, Duration::MAX);
-    for _ in 0..runs {
-        best.0 = best.0.min(timed(|| ours.map(measure, picture)));
-        best.1 = best.1.min(timed(|| plain.map(measure.kind, picture)));
-    }
-    // Programs that do not give the same map are not worth timing.
-    assert_eq!(ours.distances, plain.distances);
-    assert_eq!(ours.sites, plain.sites);
-    best
-}
+const OFF_BOARD: [OffBoard; 2] = [
+    ("`olv_open`", || times(&mut Openings::default(), &Openings::inputs(TURN))),
+    ("`olv_changeover`", || times(&mut Changeovers::default(), &Changeovers::inputs(TURN))),
+];
 
-/// Prints the four rows of one measure at one side.
-fn print_rows(kind: &str, measure: Measure, side: u32) {
+/// Times one entry at one side on every drawing, and prints its row.
+fn timed_row((name, timed): OnBoards, side: u32) -> Result<Vec<Times>, String> {
     let board = Board { width: side, height: side };
-    let (mut ours, mut plain) = (Ours::new(board), Plain::new(board));
-    for (name, picture) in timed_pictures(board) {
-        let times = best_times(&mut ours, &mut plain, measure, &picture);
-        let (ours, plain) = (times.0.as_secs_f64() * 1e3, times.1.as_secs_f64() * 1e3);
-        let (ratio, each) = (ours / plain, ours * 1e6 / board.cells() as f64);
-        println!("| {kind} | {name} | {side} | {ours:.3} | {plain:.3} | {ratio:.2} | {each:.1} |");
-    }
+    let on = |drawing: Drawing| {
+        let differ = |at| format!("{name}, {}, side {side}: board {at} differs", drawing.name());
+        timed(board, drawing).map_err(differ)
+    };
+    let times = Drawing::ALL.into_iter().map(on).collect::<Result<Vec<_>, _>>()?;
+    let cells = times.iter().map(|&times| table::compared(times, TURN / board.cells()));
+    table::row([name.to_string(), side.to_string()].into_iter().chain(cells));
+    Ok(times)
 }
 
-fn main() {
-    println!(
-        "Best of {RUNS} runs at side {LARGEST}, and of more at smaller sides. All buffers are"
-    );
-    println!("made once, before the first run, and are not filled again between runs.");
-    println!();
-    println!("| kind | board | side | ours, ms | plain, ms | ours / plain | ours, ns a cell |");
-    println!("|---|---|---|---|---|---|---|");
-    for (kind, measure) in MEASURES {
-        for side in SIDES {
-            print_rows(kind, measure, side);
+/// Times one entry that has no board, and prints its row, whose columns for boards but one are empty.
+fn timed_calls((name, timed): OffBoard) -> Result<(), String> {
+    let times = timed().map_err(|at| format!("{name}: call {at} differs"))?;
+    let cells = [name, "no board", &table::compared(times, TURN), "", "", ""];
+    table::row(cells.map(str::to_string));
+    Ok(())
+}
+
+/// Times all entries and prints both tables.
+fn report() -> Result<(), String> {
+    println!("Microseconds of a call, ours/plain = ratio, in the best of {TURNS} turns:\n");
+    table::head(&["entry", "side"]);
+    let mut by_entry = vec![];
+    for entry in ON_BOARDS {
+        let rows = SIDES.into_iter().map(|side| timed_row(entry, side));
+        by_entry.push((entry.0, rows.collect::<Result<Vec<_>, _>>()?));
+    }
+    OFF_BOARD.into_iter().try_for_each(timed_calls)?;
+    let sides = SIDES.map(|side| side.to_string()).join(", ");
+    println!("\nNanoseconds a cell, ours, at the sides {sides}:\n");
+    table::head(&["entry"]);
+    for (name, rows) in by_entry {
+        let on = |at: usize| rows.iter().map(move |row| table::a_cell(row[at]));
+        let cells = (0..Drawing::ALL.len()).map(|at| on(at).collect::<Vec<_>>().join(", "));
+        table::row([name.to_string()].into_iter().chain(cells));
+    }
+    Ok(())
+}
+
+fn main() -> ExitCode {
+    match report() {
+        Ok(()) => ExitCode::SUCCESS,
+        Err(difference) => {
+            eprintln!("{difference}");
+            ExitCode::FAILURE
         }
     }
 }

@@ -63,10 +63,8 @@ fn small_values(run: &mut Run) {
 fn random(run: &mut Run) {
     for _ in 0..200_000 {
         let generator = &mut run.generator;
-        let u = 1 + generator.below(COLUMN);
-        let i = generator.below(u);
         let reach = generator.pick(&[10, 1_000, 300_000, VALUE + 1]);
-        let (a, b) = (generator.below(reach), generator.below(reach));
-        run.hold("random", &ChangeoverCall { i, u, a, b });
+        let call = ChangeoverCall::random(reach, generator);
+        run.hold("random", &call);
     }
 }

@@ -1,0 +1,54 @@
+//! How two programs are timed against each other.
+
+use std::hint::black_box;
+use std::time::{Duration, Instant};
+
+/// How many turns each program has; the best one counts.
+pub const TURNS: u32 = 40;
+
+/// One kind of call, answered by the archive and by a plain program, each in memory of its own that
+/// was made before the first call.
+pub trait Contest {
+    type Input;
+
+    fn ours(&mut self, input: &Self::Input);
+
+    fn plain(&mut self, input: &Self::Input);
+
+    /// Whether both have left the same answer, in every cell.
+    fn same(&self) -> bool;
+}
+
+/// The time of the best turn of each program. A turn answers all the inputs.
+#[derive(Clone, Copy)]
+pub struct Times {
+    pub ours: Duration,
+    pub plain: Duration,
+}
+
+/// Times a contest, or names the input on which the two programs differ. All inputs are compared
+/// first, which also warms the memory; then the programs take turns, so that a change of the
+/// machine's pace meets both.
+pub fn times<C: Contest>(contest: &mut C, inputs: &[C::Input]) -> Result<Times, usize> {
+    for (at, input) in inputs.iter().enumerate() {
+        contest.ours(input);
+        contest.plain(input);
+        if !contest.same() {
+            return Err(at);
+        }
+    }
+    let mut best = Times { ours: Duration::MAX, plain: Duration::MAX };
+    for _ in 0..TURNS {
+        best.ours = best.ours.min(turn(inputs, |input| contest.ours(input)));
+        best.plain = best.plain.min(turn(inputs, |input| contest.plain(input)));
+    }
+    Ok(best)
+}
+
+fn turn<I>(inputs: &[I], mut answer: impl FnMut(&I)) -> Duration {
+    let start = Instant::now();
+    for input in inputs {
+        answer(black_box(input));
+    }
+    start.elapsed()
+}

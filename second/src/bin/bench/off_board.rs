@@ -1,0 +1,71 @@
+//! The contests that have no board: openings and changeovers.
+
+use crate::contest::Contest;
+use crate::plain;
+use olavinthu::{Opened, Setting};
+use second::generator::Generator;
+use second::rules::limits::{KNOB, VALUE};
+use second::rules::ChangeoverCall;
+
+/// Openings of good settings.
+#[derive(Default)]
+pub struct Openings {
+    ours: Option<Opened>,
+    plain: Option<Opened>,
+}
+
+impl Openings {
+    pub fn inputs(count: usize) -> Vec<Setting> {
+        let mut generator = Generator::new(1);
+        let mut value = || (1 + generator.below(KNOB)) as f32 / 64.0;
+        (0..count).map(|_| Setting { pitch: value(), radius: value() }).collect()
+    }
+}
+
+impl Contest for Openings {
+    type Input = Setting;
+
+    fn ours(&mut self, setting: &Setting) {
+        self.ours = olavinthu::open(*setting).ok();
+    }
+
+    fn plain(&mut self, setting: &Setting) {
+        self.plain = plain::open(*setting);
+    }
+
+    fn same(&self) -> bool {
+        self.ours == self.plain
+    }
+}
+
+/// Changeovers of columns and values that are accepted.
+#[derive(Default)]
+pub struct Changeovers {
+    ours: Option<i32>,
+    plain: i64,
+}
+
+impl Changeovers {
+    pub fn inputs(count: usize) -> Vec<ChangeoverCall> {
+        let mut generator = Generator::new(1);
+        let random = |_| ChangeoverCall::random(VALUE + 1, &mut generator);
+        (0..count).map(random).collect()
+    }
+}
+
+impl Contest for Changeovers {
+    type Input = ChangeoverCall;
+
+    fn ours(&mut self, call: &ChangeoverCall) {
+        self.ours = olavinthu::changeover(call.i, call.u, call.a, call.b).ok();
+    }
+
+    fn plain(&mut self, call: &ChangeoverCall) {
+        let [i, u, a, b] = [call.i, call.u, call.a, call.b].map(i64::from);
+        self.plain = plain::changeover(i, u, a, b);
+    }
+
+    fn same(&self) -> bool {
+        self.ours.map(i64::from) == Some(self.plain)
+    }
+}

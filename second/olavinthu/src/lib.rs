@@ -112,6 +112,35 @@ pub struct Lane {
     pub cells: u32,
 }
 
+/// Calls a C function on a board: its sides and what is asked besides; the picture and what is asked
+/// of it; the lists lent; the out-words. A list goes as its pointer and its count.
+macro_rules! on_board {
+    ($function:ident: $board:ident $(, $besides:expr)*; $picture:ident $(, $of_it:expr)*;
+        $buffers:ident $(, $lent:expr)* $(; $($out:expr),*)?) => {{
+        // SAFETY: each pointer stands with its own slice's length; exclusive slices never overlap,
+        // and the out-words are locals of the caller.
+        let answer = unsafe {
+            raw::$function(
+                $board.width,
+                $board.height,
+                $($besides,)*
+                $picture.as_ptr(),
+                $picture.len(),
+                $($of_it,)*
+                $buffers.distances.as_mut_ptr(),
+                $buffers.distances.len(),
+                $buffers.sites.as_mut_ptr(),
+                $buffers.sites.len(),
+                $buffers.scratch.as_mut_ptr(),
+                $buffers.scratch.len(),
+                $($lent.as_mut_ptr(), $lent.len(),)*
+                $($($out),*)?
+            )
+        };
+        Refusal::of(answer)
+    }};
+}
+
 /// Makes the map of a picture, one byte a cell, 1 bored and 0 sound.
 pub fn map(
     board: Board,
@@ -119,46 +148,12 @@ pub fn map(
     picture: &[u8],
     buffers: Buffers,
 ) -> Result<(), Refusal> {
-    // SAFETY: each pointer stands with its own slice's length; exclusive slices never overlap.
-    let answer = unsafe {
-        raw::olv_map(
-            board.width,
-            board.height,
-            measure.kind,
-            measure.d1,
-            measure.d2,
-            picture.as_ptr(),
-            picture.len(),
-            buffers.distances.as_mut_ptr(),
-            buffers.distances.len(),
-            buffers.sites.as_mut_ptr(),
-            buffers.sites.len(),
-            buffers.scratch.as_mut_ptr(),
-            buffers.scratch.len(),
-        )
-    };
-    Refusal::of(answer)
+    on_board!(olv_map: board, measure.kind, measure.d1, measure.d2; picture; buffers)
 }
 
 /// Makes the map of a cost picture: each word a cost, or [`MARK`] for no feature. Kinds 0 and 1.
 pub fn cost_map(board: Board, kind: u32, costs: &[u32], buffers: Buffers) -> Result<(), Refusal> {
-    // SAFETY: each pointer stands with its own slice's length; exclusive slices never overlap.
-    let answer = unsafe {
-        raw::olv_cost_map(
-            board.width,
-            board.height,
-            kind,
-            costs.as_ptr(),
-            costs.len(),
-            buffers.distances.as_mut_ptr(),
-            buffers.distances.len(),
-            buffers.sites.as_mut_ptr(),
-            buffers.sites.len(),
-            buffers.scratch.as_mut_ptr(),
-            buffers.scratch.len(),
-        )
-    };
-    Refusal::of(answer)
+    on_board!(olv_cost_map: board, kind; costs; buffers)
 }
 
 /// The greatest whole p with (p − i)² + a ≤ (p − u)² + b.
@@ -197,27 +192,6 @@ pub fn lane(
     path: &mut [u32],
 ) -> Result<Lane, Refusal> {
     let (mut width, mut cells) = (0, 0);
-    // SAFETY: each pointer stands with its own slice's length; exclusive slices never overlap, and
-    // the out-words are two locals.
-    let answer = unsafe {
-        raw::olv_lane(
-            board.width,
-            board.height,
-            picture.as_ptr(),
-            picture.len(),
-            from,
-            to,
-            buffers.distances.as_mut_ptr(),
-            buffers.distances.len(),
-            buffers.sites.as_mut_ptr(),
-            buffers.sites.len(),
-            buffers.scratch.as_mut_ptr(),
-            buffers.scratch.len(),
-            path.as_mut_ptr(),
-            path.len(),
-            &mut width,
-            &mut cells,
-        )
-    };
-    Refusal::of(answer).map(|()| Lane { width, cells })
+    on_board!(olv_lane: board; picture, from, to; buffers, path; &mut width, &mut cells)?;
+    Ok(Lane { width, cells })
 }

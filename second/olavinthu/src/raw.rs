@@ -1,4 +1,4 @@
-//! The C functions as `include/olavinthu.h` declares them.
+//! The C functions as `include/olavinthu.h` declares them, line by line.
 //!
 //! A list is a pointer and then its count; a null pointer with the count 0 is allowed. The lists and
 //! out-words of one call must be valid and must not overlap. Nothing else is asked: any number may
@@ -6,34 +6,22 @@
 
 use crate::Setting;
 
+#[rustfmt::skip] // A list stands on one line with its count, as in the header.
 extern "C" {
     pub fn olv_map(
-        width: u32,
-        height: u32,
-        kind: u32,
-        d1: u32,
-        d2: u32,
-        picture: *const u8,
-        picture_count: usize,
-        distances: *mut u32,
-        distances_count: usize,
-        sites: *mut u32,
-        sites_count: usize,
-        scratch: *mut u32,
-        scratch_count: usize,
+        width: u32, height: u32, kind: u32, d1: u32, d2: u32,
+        picture: *const u8, picture_count: usize,
+        distances: *mut u32, distances_count: usize,
+        sites: *mut u32, sites_count: usize,
+        scratch: *mut u32, scratch_count: usize,
     ) -> u32;
+
     pub fn olv_cost_map(
-        width: u32,
-        height: u32,
-        kind: u32,
-        costs: *const u32,
-        costs_count: usize,
-        distances: *mut u32,
-        distances_count: usize,
-        sites: *mut u32,
-        sites_count: usize,
-        scratch: *mut u32,
-        scratch_count: usize,
+        width: u32, height: u32, kind: u32,
+        costs: *const u32, costs_count: usize,
+        distances: *mut u32, distances_count: usize,
+        sites: *mut u32, sites_count: usize,
+        scratch: *mut u32, scratch_count: usize,
     ) -> u32;
 
     pub fn olv_changeover(i: u32, u: u32, a: u32, b: u32, p: *mut i32) -> u32;
@@ -42,27 +30,18 @@ extern "C" {
 
     pub fn olv_clear(
         setting: Setting,
-        squares: *const u32,
-        squares_count: usize,
-        clear: *mut u8,
-        clear_count: usize,
+        squares: *const u32, squares_count: usize,
+        clear: *mut u8, clear_count: usize,
     ) -> u32;
+
     pub fn olv_lane(
-        width: u32,
-        height: u32,
-        picture: *const u8,
-        picture_count: usize,
-        from: u32,
-        to: u32,
-        distances: *mut u32,
-        distances_count: usize,
-        sites: *mut u32,
-        sites_count: usize,
-        scratch: *mut u32,
-        scratch_count: usize,
-        path: *mut u32,
-        path_count: usize,
-        lane_width: *mut u32,
-        lane_cells: *mut u32,
+        width: u32, height: u32,
+        picture: *const u8, picture_count: usize,
+        from: u32, to: u32,
+        distances: *mut u32, distances_count: usize,
+        sites: *mut u32, sites_count: usize,
+        scratch: *mut u32, scratch_count: usize,
+        path: *mut u32, path_count: usize,
+        lane_width: *mut u32, lane_cells: *mut u32,
     ) -> u32;
 }

@@ -33,6 +33,9 @@ impl Refusal {
             7 => "an end of the lane is not on the board",
             8 => "the pitch or the radius is not a multiple of 1/64 mm from 1/64 mm to 64 mm",
             9 => "the changeover's columns are not i < u ≤ 511, or a value is above 2,000,000",
+            // The C functions never answer the next two; the bench file's program does.
+            10 => "the file's length is not a multiple of 4, or is over 16,384 bytes",
+            11 => "a coordinate in the file is above 63",
             // Only an archive of a later edition than this crate answers another number.
             _ => "the archive knows the reason, this edition of the wrapper does not",
         }
@@ -58,7 +61,8 @@ mod tests {
 
     #[test]
     fn each_number_has_a_sentence_of_its_own() {
-        let sentences: Vec<_> = (1..=10).map(|number| Refusal { number }.sentence()).collect();
+        // 12 is the first that the table does not have.
+        let sentences: Vec<_> = (1..=12).map(|number| Refusal { number }.sentence()).collect();
         for (at, sentence) in sentences.iter().enumerate() {
             assert!(!sentences[..at].contains(sentence), "{sentence}");
         }

@@ -3,9 +3,9 @@
 
 use crate::lent::rubbish;
 use crate::run::{Call, Run};
-use olavinthu::{raw, Setting};
+use olavinthu::{raw, Buffers, Setting};
 use second::generator::Generator;
-use second::rules::ChangeoverCall;
+use second::rules::{ChangeoverCall, LaneCall};
 use std::ptr::{null, null_mut};
 
 /// Makes a call that is refused, with rubbish in its two out-words, which must stay.
@@ -33,9 +33,10 @@ pub fn silent_opening(setting: Setting, generator: &mut Generator) -> Result<(),
     // SAFETY: the out-words are valid.
     silent(generator, |a, b| unsafe { raw::olv_open(setting, a, b) })
 }
+
 pub fn silent_lane(
-    call: &second::rules::LaneCall,
-    buffers: olavinthu::Buffers,
+    call: &LaneCall,
+    buffers: Buffers,
     path: &mut [u32],
     generator: &mut Generator,
 ) -> Result<(), String> {
@@ -87,6 +88,7 @@ fn null_map() -> u32 {
     // SAFETY: a list of no elements may be null.
     unsafe { raw::olv_map(1, 1, 0, 0, 0, null(), 0, none, 0, none, 0, none, 0) }
 }
+
 fn null_cost_map() -> u32 {
     let none = null_mut();
     // SAFETY: a list of no elements may be null.
@@ -98,7 +100,7 @@ fn null_clear() -> u32 {
     // SAFETY: a list of no elements may be null.
     unsafe { raw::olv_clear(setting, null(), 0, null_mut(), 0) }
 }
-#[rustfmt::skip]
+
 fn null_lane() -> u32 {
     let none = null_mut();
     let (mut w, mut n) = (0, 0);

@@ -1,9 +1,12 @@
 //! The boards that maps and lanes are tried on, and how a board is drawn for a reader.
 
+use crate::run::Run;
 use olavinthu::Board;
 use second::generator::Generator;
 use second::pictures;
 use second::rules::limits::SIDE;
+use second::rules::BoardCall;
+use std::fmt::Debug;
 
 /// The largest board.
 pub const LARGEST: Board = Board { width: SIDE, height: SIDE };
@@ -57,6 +60,40 @@ pub fn random_picture(board: Board, generator: &mut Generator) -> Vec<u8> {
     picture
 }
 
+/// Drawn and random pictures on small boards and on long thin ones, and one bore on boards around
+/// the limits. Each goes to `hold` with the name of its group.
+pub fn pictures(run: &mut Run, mut hold: impl FnMut(&mut Run, &'static str, Board, &[u8])) {
+    for board in up_to(9) {
+        let groups = ["up to 9 by 9, drawn", "up to 9 by 9, random"];
+        on_board(run, groups, board, 40, &mut hold);
+    }
+    for board in thin() {
+        let groups = ["long and thin, drawn", "long and thin, random"];
+        on_board(run, groups, board, 4, &mut hold);
+    }
+    for board in around_the_limits() {
+        let picture = pictures::bored_where(board, |x, y| x + y == 0);
+        hold(run, "sides around their limits", board, &picture);
+    }
+}
+
+/// All drawn pictures on one board, and as many random ones as are asked for.
+fn on_board(
+    run: &mut Run,
+    [drawn, random]: [&'static str; 2],
+    board: Board,
+    count: u32,
+    hold: &mut impl FnMut(&mut Run, &'static str, Board, &[u8]),
+) {
+    for picture in pictures::drawn(board) {
+        hold(run, drawn, board, &picture);
+    }
+    for _ in 0..count {
+        let picture = random_picture(board, &mut run.generator);
+        hold(run, random, board, &picture);
+    }
+}
+
 /// The sides of a board and its cells, row by row.
 pub fn drawn<T>(board: Board, cells: &[T], cell: impl Fn(&T) -> String) -> String {
     let width = (board.width as usize).max(1);
@@ -67,12 +104,13 @@ pub fn drawn<T>(board: Board, cells: &[T], cell: impl Fn(&T) -> String) -> Strin
     format!("board {width} by {height}, {given} cells given\n{}", lines.join("\n"))
 }
 
-/// A board with its picture: `#` bored, `.` sound, `?` neither.
-pub fn drawn_picture(board: Board, picture: &[u8]) -> String {
+/// A call on a picture with its board: `#` bored, `.` sound, `?` neither.
+pub fn drawn_call<A: Debug>(call: &BoardCall<u8, A>) -> String {
     let cell = |byte: &u8| match byte {
         0 => ".",
         1 => "#",
         _ => "?",
     };
-    drawn(board, picture, |byte| cell(byte).to_string())
+    let board = drawn(call.board, &call.picture, |byte| cell(byte).to_string());
+    format!("{:?}, {:?}, {board}", call.asked, call.lent)
 }

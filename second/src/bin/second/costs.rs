@@ -2,7 +2,7 @@
 
 use crate::boards::{self, LARGEST};
 use crate::damage::{self, put, Damage};
-use crate::map_case::{Asked, MapCase};
+use crate::map_case::{hold_each, Asked, Look, MapCase};
 use crate::run::Run;
 use olavinthu::{Board, Buffers, Refusal, MARK};
 use second::generator::Generator;
@@ -72,13 +72,12 @@ fn styled(board: Board, style: u32, marked: u32, generator: &mut Generator) -> V
         .collect()
 }
 
+/// Both kinds of a cost map.
+const KINDS: [CostKind; 2] = [CostKind(0), CostKind(1)];
+
 /// Holds the maps of both kinds of one cost picture.
 fn both_kinds(run: &mut Run, group: &'static str, board: Board, costs: &[u32]) {
-    for kind in [0, 1].map(CostKind) {
-        let call = CostCall::new(board, costs.to_vec(), kind);
-        let case = MapCase::whole(call, &mut run.generator);
-        run.hold(group, &case);
-    }
+    hold_each(run, group, (board, costs), KINDS, Look::AT_ALL);
 }
 
 /// Holds cost pictures of every style on one board.
@@ -120,11 +119,8 @@ fn large_boards(run: &mut Run) {
     }
     for style in [3, 6, 8] {
         let costs = styled(LARGEST, style, 1, &mut run.generator);
-        for kind in [0, 1].map(CostKind) {
-            let call = CostCall::new(LARGEST, costs.clone(), kind);
-            let case = MapCase::sampled(call, &mut run.generator);
-            run.hold("512 by 512, many costs, some cells", &case);
-        }
+        let board = (LARGEST, &costs[..]);
+        hold_each(run, "512 by 512, many costs, some cells", board, KINDS, Look::AT_SOME);
     }
 }
 
@@ -147,12 +143,10 @@ fn damaged(run: &mut Run) {
     ];
     let damages = [damage::on_board(), own.to_vec()].concat();
     for board in boards::to_damage() {
-        for kind in [0, 1].map(CostKind) {
+        for kind in KINDS {
             let costs = styled(board, 5, 2, &mut run.generator);
             let sound = CostCall::new(board, costs, kind);
-            for call in damage::spoiled(&sound, &damages) {
-                run.hold("one damage or two", &MapCase::exact(call));
-            }
+            damage::hold(run, &sound, &damages, MapCase::exact);
         }
     }
 }

@@ -1,6 +1,7 @@
 //! Spoiled calls. Each has one damage or two: the answer to two is the lesser number, so that the
 //! order of the tests shows.
 
+use crate::run::{Call, Run};
 use olavinthu::Board;
 use second::rules::limits::SIDE;
 use second::rules::{BoardCall, Lengths};
@@ -8,8 +9,19 @@ use second::rules::{BoardCall, Lengths};
 /// A way to spoil a call. It is given the least lengths on the sound call's board.
 pub type Damage<P, A> = fn(least: Lengths, call: &mut BoardCall<P, A>);
 
-/// The call with each damage by itself, and with every two.
-pub fn spoiled<P: Clone, A: Clone>(
+/// Holds a sound call with each damage by itself, and with every two.
+pub fn hold<P: Clone, A: Clone, C: Call>(
+    run: &mut Run,
+    sound: &BoardCall<P, A>,
+    damages: &[Damage<P, A>],
+    case: fn(BoardCall<P, A>) -> C,
+) {
+    for call in spoiled(sound, damages) {
+        run.hold("one damage or two", &case(call));
+    }
+}
+
+fn spoiled<P: Clone, A: Clone>(
     sound: &BoardCall<P, A>,
     damages: &[Damage<P, A>],
 ) -> Vec<BoardCall<P, A>> {

@@ -49,18 +49,15 @@ impl Call for LaneCall {
     }
 
     fn drawn(&self) -> String {
-        let board = boards::drawn_picture(self.board, &self.picture);
-        format!("{:?}, {:?}, {board}", self.asked, self.lent)
+        boards::drawn_call(self)
     }
 }
 
 pub fn compare(run: &mut Run) {
     small_pictures(run);
-    small_boards(run);
+    boards::pictures(run, between_random_cells);
     mazes(run);
-    thin_boards(run);
     large_boards(run);
-    sides(run);
     damaged(run);
 }
 
@@ -73,20 +70,27 @@ fn hold(run: &mut Run, group: &'static str, board: Board, picture: &[u8], ends: 
     run.hold(group, &call);
 }
 
-/// Two random cells; now and then twice the same one.
+/// Two random cells; now and then the first or the last one, or twice the same.
 fn random_ends(board: Board, generator: &mut Generator) -> [u32; 2] {
     let cells = board.cells() as u32;
-    let from = generator.below(cells);
-    let to = match generator.once_in(16) {
-        true => from,
-        false => generator.below(cells),
-    };
-    [from, to]
+    let last = cells.saturating_sub(1);
+    let [from, to] = [(); 2].map(|()| match generator.below(8) {
+        0 => 0,
+        1 => last,
+        _ => generator.below(cells),
+    });
+    match generator.once_in(16) {
+        true => [from, from],
+        false => [from, to],
+    }
 }
 
+/// Holds a few lanes on one picture.
 fn between_random_cells(run: &mut Run, group: &'static str, board: Board, picture: &[u8]) {
-    let ends = random_ends(board, &mut run.generator);
-    hold(run, group, board, picture, ends);
+    for _ in 0..3 {
+        let ends = random_ends(board, &mut run.generator);
+        hold(run, group, board, picture, ends);
+    }
 }
 
 fn small_pictures(run: &mut Run) {
@@ -96,20 +100,6 @@ fn small_pictures(run: &mut Run) {
             for ends in (0..cells * cells).map(|pair| [pair / cells, pair % cells]) {
                 hold(run, "every picture of at most 8 cells", board, &picture, ends);
             }
-        }
-    }
-}
-
-fn small_boards(run: &mut Run) {
-    for board in boards::up_to(9) {
-        for picture in pictures::drawn(board) {
-            for _ in 0..4 {
-                between_random_cells(run, "up to 9 by 9, drawn", board, &picture);
-            }
-        }
-        for _ in 0..60 {
-            let picture = boards::random_picture(board, &mut run.generator);
-            between_random_cells(run, "up to 9 by 9, random", board, &picture);
         }
     }
 }
@@ -124,28 +114,10 @@ fn mazes(run: &mut Run) {
     }
 }
 
-fn thin_boards(run: &mut Run) {
-    for board in boards::thin() {
-        for _ in 0..10 {
-            let picture = boards::random_picture(board, &mut run.generator);
-            between_random_cells(run, "long and thin", board, &picture);
-        }
-    }
-}
-
 fn large_boards(run: &mut Run) {
     for count in [1, 3, 12, 25] {
         let picture = pictures::few(LARGEST, count, &mut run.generator);
         between_random_cells(run, "512 by 512", LARGEST, &picture);
-    }
-}
-
-/// Sides at their limits and just outside them, with lists that fit.
-fn sides(run: &mut Run) {
-    for board in boards::around_the_limits() {
-        let picture = pictures::bored_where(board, |x, y| x + y == 0);
-        let last = (board.cells() as u32).saturating_sub(1);
-        hold(run, "sides around their limits", board, &picture, [0, last]);
     }
 }
 
@@ -163,8 +135,6 @@ fn damaged(run: &mut Run) {
         let picture = pictures::few(board, 2, &mut run.generator);
         let [from, to] = random_ends(board, &mut run.generator);
         let sound = LaneCall::between(board, picture, from, to);
-        for call in damage::spoiled(&sound, &damages) {
-            run.hold("one damage or two", &call);
-        }
+        damage::hold(run, &sound, &damages, |call| call);
     }
 }

@@ -1,8 +1,8 @@
 //! How a call for a map, of a picture or of costs, is held against the rules.
 
 use crate::lent::{roomy, unchanged, Lists};
-use crate::run::{agreed, Call};
-use olavinthu::{Buffers, Refusal};
+use crate::run::{agreed, Call, Run};
+use olavinthu::{Board, Buffers, Refusal};
 use second::generator::Generator;
 use second::rules::{cells, BoardCall, MapRule};
 
@@ -14,28 +14,45 @@ pub trait Asked: MapRule {
     fn drawn(&self) -> String;
 }
 
-/// A call for a map, and which of its cells are looked at: every `step`-th.
+/// Which cells of a map are looked at: every so manieth.
+#[derive(Clone, Copy)]
+pub struct Look(usize);
+
+impl Look {
+    pub const AT_ALL: Look = Look(1);
+
+    /// On a large board that is full of features all cells would take hours.
+    pub const AT_SOME: Look = Look(2_003);
+}
+
+/// A call for a map, and which of its cells are looked at.
 pub struct MapCase<P, A> {
     call: BoardCall<P, A>,
-    step: usize,
+    look: Look,
 }
 
 impl<P, A> MapCase<P, A> {
     /// The call as it stands, every cell looked at.
     pub fn exact(call: BoardCall<P, A>) -> MapCase<P, A> {
-        MapCase { call, step: 1 }
+        MapCase { call, look: Look::AT_ALL }
     }
+}
 
-    /// The call with some words more than the least in its lists, every cell looked at.
-    pub fn whole(mut call: BoardCall<P, A>, generator: &mut Generator) -> MapCase<P, A> {
-        call.lent = roomy(call.board, generator);
-        MapCase::exact(call)
-    }
-
-    /// The same with only some cells looked at: on a large board that is full of features all of
-    /// them would take hours.
-    pub fn sampled(call: BoardCall<P, A>, generator: &mut Generator) -> MapCase<P, A> {
-        MapCase { step: 2_003, ..MapCase::whole(call, generator) }
+/// Holds the maps of one picture, for each thing that can be asked, with some words more than the
+/// least in their lists.
+pub fn hold_each<P: Clone + PartialEq, A>(
+    run: &mut Run,
+    group: &'static str,
+    (board, picture): (Board, &[P]),
+    all_asked: impl IntoIterator<Item = A>,
+    look: Look,
+) where
+    BoardCall<P, A>: Asked,
+{
+    for asked in all_asked {
+        let mut call = BoardCall::new(board, picture.to_vec(), asked);
+        call.lent = roomy(board, &mut run.generator);
+        run.hold(group, &MapCase { call, look });
     }
 }
 
@@ -47,7 +64,7 @@ where
     fn accepted(&self, lists: &Lists) -> Result<(), String> {
         let nearest = self.call.nearest();
         let mut map = lists.map(self.call.board);
-        for (cell, (x, y)) in cells(self.call.board).enumerate().step_by(self.step) {
+        for (cell, (x, y)) in cells(self.call.board).enumerate().step_by(self.look.0) {
             (map.distances[cell], map.sites[cell]) = nearest(x, y);
         }
         lists.hold(self.call.board, &map)

@@ -2,7 +2,7 @@
 
 use crate::boards::{self, LARGEST};
 use crate::damage::{self, Damage};
-use crate::map_case::{Asked, MapCase};
+use crate::map_case::{hold_each, Asked, Look, MapCase};
 use crate::run::Run;
 use olavinthu::{Board, Buffers, Measure, Refusal};
 use second::generator::Generator;
@@ -18,17 +18,15 @@ impl Asked for PictureCall {
     }
 
     fn drawn(&self) -> String {
-        let board = boards::drawn_picture(self.board, &self.picture);
-        format!("{:?}, {:?}, {board}", self.asked, self.lent)
+        boards::drawn_call(self)
     }
 }
 
 pub fn compare(run: &mut Run) {
     small_pictures(run);
-    small_boards(run);
-    thin_boards(run);
+    boards::pictures(run, every_kind);
+    random_boards(run);
     large_boards(run);
-    sides(run);
     weights(run);
     damaged(run);
 }
@@ -51,11 +49,8 @@ fn measures(generator: &mut Generator) -> [Measure; 4] {
 
 /// Holds the maps of all four kinds of one picture.
 fn every_kind(run: &mut Run, group: &'static str, board: Board, picture: &[u8]) {
-    for measure in measures(&mut run.generator) {
-        let call = PictureCall::new(board, picture.to_vec(), measure);
-        let case = MapCase::whole(call, &mut run.generator);
-        run.hold(group, &case);
-    }
+    let measures = measures(&mut run.generator);
+    hold_each(run, group, (board, picture), measures, Look::AT_ALL);
 }
 
 fn small_pictures(run: &mut Run) {
@@ -66,32 +61,11 @@ fn small_pictures(run: &mut Run) {
     }
 }
 
-fn small_boards(run: &mut Run) {
-    for board in boards::up_to(9) {
-        for picture in pictures::drawn(board) {
-            every_kind(run, "up to 9 by 9, drawn", board, &picture);
-        }
-        for _ in 0..40 {
-            let picture = boards::random_picture(board, &mut run.generator);
-            every_kind(run, "up to 9 by 9, random", board, &picture);
-        }
-    }
+fn random_boards(run: &mut Run) {
     for _ in 0..200 {
         let board = boards::random_board(1, 24, &mut run.generator);
         let picture = boards::random_picture(board, &mut run.generator);
         every_kind(run, "up to 24 by 24, random", board, &picture);
-    }
-}
-
-fn thin_boards(run: &mut Run) {
-    for board in boards::thin() {
-        for picture in pictures::drawn(board) {
-            every_kind(run, "long and thin, drawn", board, &picture);
-        }
-        for _ in 0..4 {
-            let picture = boards::random_picture(board, &mut run.generator);
-            every_kind(run, "long and thin, random", board, &picture);
-        }
     }
 }
 
@@ -107,19 +81,9 @@ fn large_boards(run: &mut Run) {
         pictures::random(LARGEST, 50, &mut run.generator),
     ];
     for picture in dense {
-        for measure in measures(&mut run.generator) {
-            let call = PictureCall::new(LARGEST, picture.clone(), measure);
-            let case = MapCase::sampled(call, &mut run.generator);
-            run.hold("512 by 512, many bores, some cells", &case);
-        }
-    }
-}
-
-/// Sides at their limits and just outside them, with lists that fit.
-fn sides(run: &mut Run) {
-    for board in boards::around_the_limits() {
-        let picture = pictures::bored_where(board, |x, y| x + y == 0);
-        every_kind(run, "sides around their limits", board, &picture);
+        let measures = measures(&mut run.generator);
+        let board = (LARGEST, &picture[..]);
+        hold_each(run, "512 by 512, many bores, some cells", board, measures, Look::AT_SOME);
     }
 }
 
@@ -149,9 +113,7 @@ fn damaged(run: &mut Run) {
         for measure in measures(&mut run.generator) {
             let picture = pictures::few(board, 2, &mut run.generator);
             let sound = PictureCall::new(board, picture, measure);
-            for call in damage::spoiled(&sound, &damages) {
-                run.hold("one damage or two", &MapCase::exact(call));
-            }
+            damage::hold(run, &sound, &damages, MapCase::exact);
         }
     }
 }

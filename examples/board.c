@@ -1,0 +1,120 @@
+/*
+ * A small board from end to end: its map, its clear map, its widest lane, and a call that is refused.
+ *
+ * After `rt staticlib node`, from the repository's root:
+ *
+ *     cc -std=c11 -Iinclude examples/board.c target/staticlib/libnode.a -o target/board && target/board
+ *
+ * It prints examples/board.txt and answers 0, or 1 where something is not as it should be.
+ */
+#include "olavinthu.h"
+
+#include <inttypes.h>
+#include <stdio.h>
+#include <string.h>
+
+#define WIDTH 3
+#define HEIGHT 3
+#define CELLS (WIDTH * HEIGHT)
+#define FROM 0
+#define TO (CELLS - 1)
+
+/* One bore in the middle. */
+static const uint8_t picture[CELLS] = {0, 0, 0, 0, 1, 0, 0, 0, 0};
+
+/* What a map is lent. */
+static uint32_t distances[CELLS];
+static uint32_t sites[CELLS];
+static uint32_t scratch[OLV_SCRATCH_COUNT(WIDTH, HEIGHT)];
+
+/* The count of an array's elements. */
+#define COUNT(array) (sizeof(array) / sizeof((array)[0]))
+
+/* Asks for the kind 0 map of the picture on a board that is said to have this width. */
+static uint32_t ask_map(uint32_t width)
+{
+    return olv_map(width, HEIGHT, 0, 0, 0, picture, CELLS, distances, COUNT(distances), sites, COUNT(sites), scratch,
+                   COUNT(scratch));
+}
+
+/* Draws the board, one character a cell, with `mark` on the cells where `marked` is 1 and # on the bored ones. */
+static void draw(const uint8_t *marked, char mark)
+{
+    for (size_t cell = 0; cell < CELLS; cell++) {
+        char drawn = picture[cell] == 1 ? '#' : marked[cell] == 1 ? mark : '.';
+        printf("%c%c", drawn, (cell + 1) % WIDTH == 0 ? '\n' : ' ');
+    }
+}
+
+/* The map: the board as it is, then the words of its cells. */
+static int show_map(void)
+{
+    if (ask_map(WIDTH) != 0) {
+        return 0;
+    }
+    puts("the board, # bored:");
+    draw(picture, '#');
+    puts("\nthe squared distance of each cell to the bore:");
+    for (size_t cell = 0; cell < CELLS; cell++) {
+        printf("%" PRIu32 "%c", distances[cell], (cell + 1) % WIDTH == 0 ? '\n' : ' ');
+    }
+    return 1;
+}
+
+/* The clear map, of a pitch of 8 mm: 10 mm are clear around the corners, at 11.3 mm, and nowhere else. */
+static int show_clear(void)
+{
+    const olv_setting setting = {8.0f, 10.0f};
+    uint8_t clear[CELLS];
+
+    if (olv_clear(setting, distances, CELLS, clear, CELLS) != 0) {
+        return 0;
+    }
+    puts("\nat a pitch of 8 mm, c where a radius of 10 mm is clear:");
+    draw(clear, 'c');
+    return 1;
+}
+
+/* The widest lane from the first cell to the last, which goes around the bore: width 1, cells 0 1 2 5 8. */
+static int show_lane(void)
+{
+    static const uint32_t expected[] = {0, 1, 2, 5, 8};
+    uint32_t path[CELLS];
+    uint32_t width;
+    uint32_t cells;
+    uint8_t on_lane[CELLS] = {0};
+
+    if (olv_lane(WIDTH, HEIGHT, picture, CELLS, FROM, TO, distances, COUNT(distances), sites, COUNT(sites), scratch,
+                 COUNT(scratch), path, COUNT(path), &width, &cells) != 0) {
+        return 0;
+    }
+    if (width != 1 || cells != COUNT(expected) || memcmp(path, expected, sizeof expected) != 0) {
+        return 0;
+    }
+    printf("\nthe widest lane from cell %d to cell %d, o: width %" PRIu32 ", cells", FROM, TO, width);
+    for (size_t step = 0; step < cells; step++) {
+        on_lane[path[step]] = 1;
+        printf(" %" PRIu32, path[step]);
+    }
+    putchar('\n');
+    draw(on_lane, 'o');
+    return 1;
+}
+
+/* A refusal: its number alone. */
+static int show_refusal(void)
+{
+    uint32_t refused = ask_map(513);
+
+    printf("\na width of 513: refused %" PRIu32 "\n", refused);
+    return refused == 1;
+}
+
+int main(void)
+{
+    if (show_map() && show_clear() && show_lane() && show_refusal()) {
+        return 0;
+    }
+    fputs("board: an answer is not as it should be\n", stderr);
+    return 1;
+}

@@ -57,7 +57,7 @@ typedef struct olv_setting {
  * The map of a picture: for each cell the least distance to a bored cell, and which cell that is.
  *
  *   kind  0: dx^2 + dy^2    1: dx + dy    2: the larger of dx and dy
- *         3: d2 for each slanted step and d1 for each straight one, as a chamfer scan counts them
+ *         3: d2 * min(dx, dy) + d1 * (the larger - the smaller), as a chamfer scan counts its steps
  *   d1, d2     the weights; read for kind 3 only
  *   picture    exactly w * h bytes
  *   distances  at least w * h words; the first w * h become the least distances

@@ -1,4 +1,4 @@
-//! The second program's own parts: document 01 by brute force, and boards to try it on.
+//! The second program's own parts: document 01 by the plainest methods, and boards to try it on.
 //!
 //! `rules` shares nothing with the proved crates but the paper. It takes from the wrapper only the
 //! types that a call is asked with, and the lengths that they name.

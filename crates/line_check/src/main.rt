@@ -108,6 +108,15 @@ fn run_kind(kind: u32, lines: u64, seed: &mut u64) -> Tally
     tally
 }
 
+// On a line of equal values every column wins at its own place. Two of these winners are spoilt, so that a count that sees
+// nothing shows.
+fn show_spoilt() {
+    let wrong = wrong_places(0, &[0, 0, 0, 0], &[0, 2, 2, 0]);
+    io::write_all(STDOUT_FILENO, b"a line with 2 winners spoilt: ");
+    io::print_decimal(STDOUT_FILENO, wrong);
+    io::write_all(STDOUT_FILENO, b" wrong\n");
+}
+
 fn main() {
     let mut seed = SEED;
     let squared = run_kind(0, LINES, &mut seed);
@@ -122,4 +131,5 @@ fn main() {
     io::write_all(STDOUT_FILENO, b", seed ");
     io::print_decimal(STDOUT_FILENO, SEED);
     io::write_all(STDOUT_FILENO, b"\n");
+    show_spoilt();
 }

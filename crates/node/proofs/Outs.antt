@@ -1,6 +1,8 @@
 -- A refused call says nothing of its values, so it may be said of any. Assumes nothing.
-use mathlib.Core.Path.{_≡_, refl, subst}
+use mathlib.Core.Path.{_≡_, refl, sym, _∙_, subst}
+use mathlib.Core.Logic.{by-cases}
 use Prim.Native.Nat.{ℕ}
+use native.Mathlib.Decide.{ℕ-discrete}
 use native.Mathlib.Omega.{arith}
 use mathlib.Core.List.{List}
 use lib.IntN.{ℤ}
@@ -38,3 +40,9 @@ pub lane-as : {w h : ℕ} {picture : List ℕ} {from to : ℕ} {before after : B
     → LaneCall w h picture from to before path (lane-number case) (lane-width case) (lane-cells case) after path′
 lane-as {w} {h} {picture} {from} {to} {before} {after} {path} {path′} e c =
     subst (λ r. LaneCall w h picture from to before path (lane-number r) (lane-width r) (lane-cells r) after path′) e c
+
+-- what a call leaves in an out-word is one value: the entry's record has one where the number is 0, and else it is as it was
+pub out-pinned : {A : Type 0} {number : ℕ} {before after after′ : A} → (number ≡ 0 → after ≡ after′)
+    → Out number before after → Out number before after′ → after ≡ after′
+out-pinned {number = number} answered o o′ =
+    by-cases (ℕ-discrete number 0) answered (λ some. o .kept some ∙ sym (o′ .kept some))

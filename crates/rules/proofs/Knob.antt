@@ -136,3 +136,19 @@ unfolding bad-setting
 opened-good {s} o =
     both (good-value (pitch-word s)) (good-value (radius-word s)) .1
     (good-value-holds (o .pitch-good), good-value-holds (o .radius-good))
+
+-- a good word has an exponent from 121 to 133
+good-within : {word k : ℕ} → Good word k → (121 * 2 ^ 23 ≤ word) × (word < 134 * 2 ^ 23)
+good-within g = omega (arith, good-exponent g, good-power g)
+
+-- a test that cannot pass fails
+fails : (b : Bool) → (T b → ⊥) → b ≡ false
+fails true h = absurd (h tt)
+fails false h = refl
+
+-- "NaN, infinities, negatives and both zeros are bad.": the word of zero is 0; infinities and NaNs have an exponent of
+-- 255, and what has a sign, the other zero too, has a word of 256·2^23 or more
+pub named-bad : (word : ℕ) → (word ≡ 0) ⊎ (255 * 2 ^ 23 ≤ word) → good-value word ≡ false
+named-bad word h =
+    fails (good-value word)
+    (λ t. let g = good-within (good-value-means word t .1) in ⊎-elim (λ e. omega (arith, g)) (λ l. omega (arith, g)) h)

@@ -16,7 +16,7 @@ use mathlib.Core.Path.{_≡_, refl, sym, ap, ap₂, subst₂}
 use mathlib.Core.Logic.{_≢_, _↔_, inl, inr, ⊎-elim, by-cases}
 use mathlib.Core.List.{List, [], _∷_, List·Memᴰ, List·Memᴰ·not-nil, List·Memᴰ·cases-cons}
 use Prim.Native.Nat.{ℕ, zero, suc, _+_, _-_, _*_, _≤_, _<_, min}
-use native.Mathlib.Nat.{le-refl, le-min, mul-comm}
+use native.Mathlib.Nat.{le-refl, le-antisymm, le-min, mul-comm}
 use native.Mathlib.Nat.{mod-lt, div-add-mod', add-mod-right, add-div-right, div-lt-iff-lt-mul}
 use native.Mathlib.Decide.{decLt, ℕ-discrete}
 use native.Mathlib.Omega.{arith}
@@ -247,3 +247,13 @@ pub best-unique-words : {w h : ℕ} {word word′ : ℕ → ℕ} {from to : ℕ}
 best-unique-words {w} {h} {word} {word′} {from} {to} {cells} agree b b′ =
     let same = best-unique (best-words agree b) b′ in
     (same, rw (← same) (width-same word word′ cells (all-map agree cells (lane-inside w h from to cells (b .lane)))))
+
+-- "From a cell to itself: that one cell."
+pub own-lane : {w h : ℕ} {word : ℕ → ℕ} {c : ℕ} (cells : List ℕ) → Best w h word c c cells → cells ≡ c ∷ []
+unfolding Lane GoesOn width
+own-lane [] b = absurd (b .lane)
+own-lane (p ∷ []) b = ap (λ (q : ℕ). q ∷ []) (b .lane .0)
+own-lane {word = word} (p ∷ q ∷ ps) b =
+    let alone : (p ≡ _) × (p < _) × (p ≡ _) = (b .lane .0, b .lane .1, b .lane .0) in
+    let few = b .fewest (p ∷ []) alone (le-antisymm (b .widest (p ∷ []) alone) (width-le word (p ∷ q ∷ ps) .0)) in
+    absurd (omega arith)

@@ -55,3 +55,16 @@ pub additive : (kind : ℕ) → kind < 2 → Additive (measure kind)
 additive zero _ = omega arith
 additive (suc zero) _ = omega arith
 additive (suc (suc k)) h = omega arith
+
+-- "With a bore present, W + H may stand for an empty column's G": wherever the empty column is, it combines to more than
+-- a bore does, which is less than W columns and less than H rows away
+pub stand-in : (kind w h dx dx′ dy : ℕ)
+    → kind < 3
+    → dx′ < w
+    → dy < h
+    → measure kind .combine dx′ (measure kind .lift dy) < measure kind .combine dx (measure kind .lift (w + h))
+stand-in zero w h dx dx′ dy l a b =
+    let near : suc (dx′ + dy) ≤ w + h = omega arith in
+    omega (arith, mul-le-mul near near)
+stand-in (suc zero) w h dx dx′ dy l a b = omega arith
+stand-in (suc (suc k)) w h dx dx′ dy l a b = omega arith

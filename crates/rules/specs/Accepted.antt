@@ -1,5 +1,5 @@
 -- What an accepted call has: the facts that stand behind an answer of 0, for each entry. The laws of `proofs/Refusals.antt`
--- say that a call has them exactly where no test of the entry holds. Assumes nothing.
+-- say that a call has them where no test of the entry holds. Assumes nothing.
 use mathlib.Core.Path.{_≡_}
 use mathlib.Core.Logic.{_⊎_}
 use mathlib.Core.Bool.{false}

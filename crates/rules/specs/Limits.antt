@@ -1,5 +1,6 @@
 -- The limits of document 01, each in one place. `src/lib.rt` has a constant for each, and `limits` there is proved to
--- hand out these very numbers. A proof names the limit and never its digits.
+-- hand out these very numbers. A proof names the limit and not its digits, but for the knob: 4,096 is 2^12, and
+-- its powers of two are counted as 13.
 -- Assumes nothing.
 use mathlib.Core.Path.{_≡_}
 use Prim.Native.Nat.{ℕ, _^_}

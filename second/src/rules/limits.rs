@@ -18,3 +18,7 @@ pub const CLEAR: usize = 262_144;
 pub const COLUMN: u32 = 511;
 /// The greatest value that a changeover may be asked with.
 pub const VALUE: u32 = 2_000_000;
+/// The side of the bench file's board.
+pub const BENCH_SIDE: u32 = 64;
+/// The longest bench file.
+pub const FILE: usize = 16_384;

@@ -1,8 +1,10 @@
-//! Document 01 by trying everything. Speed is no aim here: each answer is looked for as the paper
-//! defines it, so that a reader can hold the two side by side.
+//! Document 01 by the plainest methods. Speed is no aim here: each cell of a map is held against
+//! every bore or cost, a setting against the paper's word for each whole number, a lane is found by
+//! joining cells from the widest down; so that a reader can hold the two side by side.
 
 mod changeover;
 mod costs;
+mod files;
 mod knob;
 mod lane;
 pub mod limits;
@@ -12,6 +14,7 @@ mod refusals;
 
 pub use changeover::ChangeoverCall;
 pub use costs::{CostCall, CostKind};
+pub use files::BenchFile;
 pub use knob::{good_word, opened, ClearCall};
 pub use lane::{BestLane, LaneAsked, LaneCall};
 pub use loan::{cells, BoardCall, Lengths};

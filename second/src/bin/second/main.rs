@@ -1,4 +1,5 @@
-//! Holds every C function of the archive against the second program, on many calls.
+//! Holds every C function of the archive, and the bench program, against the second program, on
+//! many calls.
 //!
 //! usage: second [SEED]
 //!
@@ -13,6 +14,7 @@ mod boards;
 mod changeovers;
 mod costs;
 mod damage;
+mod files;
 mod knob;
 mod lanes;
 mod lent;
@@ -39,6 +41,7 @@ fn main() {
     changeovers::compare(&mut run);
     knob::compare(&mut run);
     lanes::compare(&mut run);
+    files::compare(&mut run);
     bare::compare(&mut run);
     run.report();
 }

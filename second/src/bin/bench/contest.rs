@@ -3,8 +3,11 @@
 use std::hint::black_box;
 use std::time::{Duration, Instant};
 
-/// How many turns each program has; the best one counts.
-pub const TURNS: u32 = 40;
+/// How many turns each program has in a pass, at the least.
+pub const TURNS: u32 = 10;
+
+/// How long the turns of a pass go on, at the least.
+const LEAST: Duration = Duration::from_millis(100);
 
 /// One kind of call, answered by the archive and by a plain program, each in memory of its own that
 /// was made before the first call.
@@ -26,6 +29,15 @@ pub struct Times {
     pub plain: Duration,
 }
 
+impl Times {
+    /// Before the first turn.
+    pub const NONE: Times = Times { ours: Duration::MAX, plain: Duration::MAX };
+
+    pub fn or_better(self, other: Times) -> Times {
+        Times { ours: self.ours.min(other.ours), plain: self.plain.min(other.plain) }
+    }
+}
+
 /// Times a contest, or names the input on which the two programs differ. All inputs are compared
 /// first, which also warms the memory; then the programs take turns, so that a change of the
 /// machine's pace meets both.
@@ -37,10 +49,13 @@ pub fn times<C: Contest>(contest: &mut C, inputs: &[C::Input]) -> Result<Times, 
             return Err(at);
         }
     }
-    let mut best = Times { ours: Duration::MAX, plain: Duration::MAX };
-    for _ in 0..TURNS {
-        best.ours = best.ours.min(turn(inputs, |input| contest.ours(input)));
-        best.plain = best.plain.min(turn(inputs, |input| contest.plain(input)));
+    let mut best = Times::NONE;
+    let (start, mut turns) = (Instant::now(), 0);
+    while turns < TURNS || start.elapsed() < LEAST {
+        turns += 1;
+        let ours = turn(inputs, |input| contest.ours(input));
+        let plain = turn(inputs, |input| contest.plain(input));
+        best = best.or_better(Times { ours, plain });
     }
     Ok(best)
 }

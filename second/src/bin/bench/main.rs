@@ -24,6 +24,9 @@ use std::process::ExitCode;
 
 const SIDES: [u32; 3] = [64, 256, SIDE];
 
+/// How often all figures are timed; the best time of each counts.
+const PASSES: u32 = 4;
+
 /// An entry on boards, and how its turns on one drawing are timed.
 type OnBoards = (&'static str, fn(Board, Drawing) -> Result<Times, usize>);
 
@@ -60,51 +63,85 @@ const OFF_BOARD: [OffBoard; 2] = [
     ("`olv_changeover`", || times(&mut Changeovers::default(), &Changeovers::inputs(TURN))),
 ];
 
-/// Times one entry at one side on every drawing, and prints its row.
-fn timed_row((name, timed): OnBoards, side: u32) -> Result<Vec<Times>, String> {
-    let board = Board { width: side, height: side };
-    let on = |drawing: Drawing| {
-        let differ = |at| format!("{name}, {}, side {side}: board {at} differs", drawing.name());
-        timed(board, drawing).map_err(differ)
-    };
-    let times = Drawing::ALL.into_iter().map(on).collect::<Result<Vec<_>, _>>()?;
-    let cells = times.iter().map(|&times| table::compared(times, TURN / board.cells()));
-    table::row([name.to_string(), side.to_string()].into_iter().chain(cells));
-    Ok(times)
+/// One figure of the table: what it is of, and how its turns are timed.
+struct Figure {
+    name: String,
+    timed: Box<dyn Fn() -> Result<Times, usize>>,
 }
 
-/// Times one entry that has no board, and prints its row, whose columns for boards but one are empty.
-fn timed_calls((name, timed): OffBoard) -> Result<(), String> {
-    let times = timed().map_err(|at| format!("{name}: call {at} differs"))?;
-    let cells = [name, "no board", &table::compared(times, TURN), "", "", ""];
-    table::row(cells.map(str::to_string));
-    Ok(())
-}
-
-/// Times all entries and prints both tables.
-fn report() -> Result<(), String> {
-    println!("Microseconds of a call, ours/plain = ratio, in the best of {TURNS} turns:\n");
-    table::head(&["entry", "side"]);
-    let mut by_entry = vec![];
-    for entry in ON_BOARDS {
-        let rows = SIDES.into_iter().map(|side| timed_row(entry, side));
-        by_entry.push((entry.0, rows.collect::<Result<Vec<_>, _>>()?));
+/// All figures: by entry, side and drawing, and then those of the entries that have no board.
+fn figures() -> Vec<Figure> {
+    let mut figures = vec![];
+    for ((name, timed), side) in rows() {
+        let board = Board { width: side, height: side };
+        figures.extend(Drawing::ALL.map(|drawing| Figure {
+            name: format!("{name}, side {side}, {}", drawing.name()),
+            timed: Box::new(move || timed(board, drawing)),
+        }));
     }
-    OFF_BOARD.into_iter().try_for_each(timed_calls)?;
+    let off_board = |(name, timed): OffBoard| Figure { name: name.into(), timed: Box::new(timed) };
+    figures.extend(OFF_BOARD.map(off_board));
+    figures
+}
+
+/// The rows of the table that have a side: each entry at each.
+fn rows() -> impl Iterator<Item = (OnBoards, u32)> {
+    ON_BOARDS.into_iter().flat_map(|entry| SIDES.map(|side| (entry, side)))
+}
+
+/// The best times of each figure, or where the two programs differ. A machine with other work on it
+/// has slow moments of some seconds; the passes are far enough from each other that no figure falls
+/// into one with all its turns.
+fn best_times() -> Result<Vec<Times>, String> {
+    let figures = figures();
+    let mut best = vec![Times::NONE; figures.len()];
+    for _ in 0..PASSES {
+        for (figure, best) in figures.iter().zip(&mut best) {
+            let differs = |at| format!("{}: answer {at} differs", figure.name);
+            *best = best.or_better((figure.timed)().map_err(differs)?);
+        }
+    }
+    Ok(best)
+}
+
+/// Prints the times of a call.
+fn print_calls(on_boards: &[Times], off_board: &[Times]) {
+    let turns = PASSES * TURNS;
+    println!("Microseconds of a call, ours/plain = ratio, in the best of {turns} turns or more:\n");
+    table::head(&["entry", "side"]);
+    for (((name, _), side), times) in rows().zip(on_boards.chunks(Drawing::ALL.len())) {
+        let calls = TURN / (side * side) as usize;
+        let cells = times.iter().map(|&times| table::compared(times, calls));
+        table::row([name.to_string(), side.to_string()].into_iter().chain(cells));
+    }
+    for ((name, _), &times) in OFF_BOARD.into_iter().zip(off_board) {
+        let cells = [name, "no board", &table::compared(times, TURN), "", "", ""];
+        table::row(cells.map(str::to_string));
+    }
+}
+
+/// Prints what a cell takes the archive, so that it shows how this goes with the side.
+fn print_cells(on_boards: &[Times]) {
     let sides = SIDES.map(|side| side.to_string()).join(", ");
     println!("\nNanoseconds a cell, ours, at the sides {sides}:\n");
     table::head(&["entry"]);
-    for (name, rows) in by_entry {
-        let on = |at: usize| rows.iter().map(move |row| table::a_cell(row[at]));
-        let cells = (0..Drawing::ALL.len()).map(|at| on(at).collect::<Vec<_>>().join(", "));
+    let drawings = Drawing::ALL.len();
+    for ((name, _), times) in ON_BOARDS.into_iter().zip(on_boards.chunks(SIDES.len() * drawings)) {
+        let on = |drawing: usize| times.iter().skip(drawing).step_by(drawings);
+        let figures = |drawing| on(drawing).map(|&times| table::a_cell(times)).collect::<Vec<_>>();
+        let cells = (0..drawings).map(|drawing| figures(drawing).join(", "));
         table::row([name.to_string()].into_iter().chain(cells));
     }
-    Ok(())
 }
 
 fn main() -> ExitCode {
-    match report() {
-        Ok(()) => ExitCode::SUCCESS,
+    match best_times() {
+        Ok(times) => {
+            let (on_boards, off_board) = times.split_at(times.len() - OFF_BOARD.len());
+            print_calls(on_boards, off_board);
+            print_cells(on_boards);
+            ExitCode::SUCCESS
+        }
         Err(difference) => {
             eprintln!("{difference}");
             ExitCode::FAILURE

@@ -14,7 +14,7 @@ use Rattle.rules.specs.Tie.{CostMapWord, CostMapSite}
 use Rattle.rules.specs.Calls.{Buffers, buffers, Beyond, MapLeft, CostCall}
 use Rattle.rules.proofs.Board.{cell-in}
 use Rattle.rules.proofs.Parts.{front-beyond}
-use Rattle.costs.specs.Left.{Passed, RowsLeft}
+use Rattle.cost_lines.specs.Left.{Passed, RowsLeft}
 
 module _ {w h kind : ℕ} {costs : List ℕ} {b : Buffers} where
   -- a call that is refused leaves everything

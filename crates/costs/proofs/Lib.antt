@@ -1,4 +1,1 @@
-pub mod Putting
-pub mod ColumnLine
-pub mod RowLine
 pub mod Entry

@@ -1,24 +1,17 @@
-// The public cost entry: its tests, then the engine along each column and along each row.
-use column::all_columns;
+// The public cost entry: its tests, then the lines of the map.
+use cost_lines::steps;
 use entry::scratch_words;
 use entry::set_front;
 use envelope::Gauge;
-use row::all_rows;
 use rules::COST;
 use rules::MARK;
 use rules::SIDE;
-ghost use Prim.Native.Nat.{_*_};
 ghost use mathlib.Core.Path.{_≡_};
 ghost use lib.ListN.{length};
-ghost use Rattle.rules.specs.Limits.{side-limit};
 ghost use Rattle.rules.specs.Tie.{CostMapWord, CostMapSite};
-ghost use Rattle.rules.specs.Refusals.{answer, any, bad-cost, all-marked, scratch-words, cost-rows};
+ghost use Rattle.rules.specs.Refusals.{answer, any, bad-cost, all-marked, cost-rows};
 ghost use Rattle.rules.specs.Accepted.{CostAccepted};
 ghost use Rattle.rules.specs.Calls.{CostCall, MapLeft, buffers};
-ghost use Rattle.costs.specs.Left.{Passed, RowsLeft};
-
-mod column;
-mod row;
 
 // A cost that is neither at most the limit nor the mark.
 fn bad_cost(cost: u32) -> bool
@@ -89,26 +82,6 @@ fn refusal(
         return 6;
     }
     0
-}
-
-// The rows of the map of a cost picture that has passed the tests, in buffers of just its size: columns, then rows, on
-// the line that is lent. The columns' winners stand in the distances, which are free until the rows are written.
-fn steps(
-    g: Gauge,
-    w: usize,
-    h: usize,
-    costs: &[u32],
-    line: &mut [u64],
-    distances: &mut [u32],
-    sites: &mut [u32],
-    scratch: &mut [u32],
-)
-    requires { ⌜ Passed (g .kind) w h (now costs) × (length (now line) ≡ side-limit) × (length (now distances) ≡ w * h)
-        × (length (now sites) ≡ w * h) × (length (now scratch) ≡ scratch-words w h) ⌝ }
-    ensures { λ _. ⌜ RowsLeft (g .kind) w h (now (costs .entry)) (now (distances .exit)) (now (sites .exit)) h ⌝ }
-{
-    all_columns(g, w, costs, &mut line[..h], &mut distances[..h], scratch);
-    all_rows(g, h, costs, &mut line[..w], scratch, distances, sites);
 }
 
 // The map of a cost picture that has passed the tests.

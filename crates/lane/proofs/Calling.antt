@@ -20,9 +20,9 @@ use Rattle.rules.proofs.Board.{cell-in}
 use Rattle.rules.proofs.Parts.{front-beyond}
 use Rattle.rules.proofs.Refusals.{kind-good, weights-good, or-first, lane-row-by-row}
 use Rattle.maps.proofs.Rows.{cells-few}
-use Rattle.lane.specs.Around.{Rows, Lists}
-use Rattle.lane.specs.Labelling.{at}
-use Rattle.lane.specs.Course.{Laid}
+use Rattle.courses.specs.Around.{Rows, Lists}
+use Rattle.courses.specs.Labelling.{at}
+use Rattle.courses.specs.Course.{Laid}
 
 -- the cells of the board lie in rows of its width
 pub board-rows : {w h : ℕ} → Sides w h → Rows w (w * h)

@@ -1,55 +1,13 @@
-// The lane: a flood from the far end, the width by halving, and a walk down the labels of a last flood.
-use crate::flood::flood;
-use crate::walk::walk;
-use crate::widths::width_of;
-use entry::set_all;
+// The lane entry: its tests, the kind 0 map, and the best lane over the map's words.
+use courses::Course;
+use courses::best_lane;
 use maps::picture_map;
 use rules::LaneAnswer;
-use rules::MARK;
-ghost use Prim.Native.Nat.{_<_};
 ghost use mathlib.Core.Path.{_≡_};
 ghost use lib.ListN.{length};
 ghost use Rattle.rules.specs.Refusals.{answer, lane-rows};
 ghost use Rattle.rules.specs.Answers.{lane-number, lane-width, lane-cells};
 ghost use Rattle.rules.specs.Calls.{buffers, LaneLeft, LaneCall};
-ghost use Rattle.lane.specs.Around.{Lists};
-ghost use Rattle.lane.specs.Labelling.{at};
-ghost use Rattle.lane.specs.Course.{Laid};
-
-mod flood;
-mod sides;
-mod walk;
-mod widths;
-
-// A lane: its width, and how many cells of it stand in the path.
-struct Course {
-    width: u32,
-    cells: u32,
-}
-
-// The best lane over the words of a board whose rows are w cells long. `labels` and `path` are as long as the board.
-fn best_lane(
-    w: usize,
-    from: usize,
-    to: usize,
-    words: &[u32],
-    labels: &mut [u32],
-    path: &mut [u32],
-) -> Course
-    requires { ⌜ Lists w (now words) (now labels) (now path) × (from < length (now words)) × (to < length (now words)) ⌝ }
-    ensures { λ r. ⌜ Laid w (length (now (words .entry))) (at (now (words .entry))) from to (r .width) (r .cells)
-        (now (labels .exit)) (now (path .exit)) ⌝ }
-{
-    let width = width_of(w, from, to, words, labels, path);
-    flood(w, width, to, words, labels, path);
-    let cells = walk(w, from, labels, path);
-    set_all(labels, 0);
-    set_all(&mut path[cells..], MARK);
-    Course {
-        width,
-        cells: cells as u32,
-    }
-}
 
 // What is asked: the board's sides, and the cells that the lane joins.
 struct Asked {

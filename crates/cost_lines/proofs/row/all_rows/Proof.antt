@@ -1,0 +1,158 @@
+-- `cost_lines::row::all_rows` meets its contract. The loop's invariant: the rows above y have their map, and the column
+-- words are as they were. The measure is what is left of the board's height. Assumes nothing.
+use mathlib.Core.Path.{refl, _∙_, sym}
+use Prim.Native.Nat.{_+_, _-_, _*_, _≤_}
+use native.Mathlib.Omega.{arith}
+use lib.ListN.{length}
+use Rattle.cost_lines.proofs.RowLine.{row-within, row-part-long, Crossing, crossing-more}
+use Rattle.cost_lines.proofs.row.all_rows.Statement.{statement}
+use Rattle.cost_lines.proofs.row.all_rows.Tie as tie
+
+abbrev Inv-loop : tie.InvT-loop
+Inv-loop g h costs values₀ scratch₀ distances₀ sites₀ w y₀ values scratch distances sites y = Crossing (g .kind)
+    (length values₀) h costs values scratch distances sites y
+
+abbrev μ-loop : tie.MeasureT-loop
+μ-loop g h costs values₀ scratch₀ distances₀ sites₀ w y₀ values scratch distances sites y = h - y
+
+-- the row stands within the board's cells
+inside : (c : tie.In-loop Inv-loop μ-loop) → let a = c .before .before .before .before .before .before .before .args
+    in let w = length (a .values .now) in
+    c .before .loop .y * w + w ≤ w * a .h
+inside c = row-within (length (c .before .before .before .before .before .before .before .args .values .now))
+    (c .loop-test .taken)
+
+-- the way back from the end of a turn to its beginning
+abbrev turn : tie.After-slice-known8 Inv-loop μ-loop → tie.In-loop Inv-loop μ-loop
+turn c = c .before .before .before .before .before .before .before .before .before .before .before .before .before
+
+loop-holds : tie.Need-loop-holds Inv-loop μ-loop
+loop-holds c =
+    let p = c .before .before .before .before .before .pre in
+    record {
+      values-long = refl;
+      scratch-long = p .2;
+      distances-long = p .3;
+      sites-long = p .4;
+      columns = p .1;
+      left = λ j l. absurd (omega arith);
+      within = omega arith;
+    }
+
+mul-at : tie.Need-mul-at Inv-loop μ-loop
+mul-at c = omega (arith, inside c, c .before .before .before .before .before .before .before .pre .3)
+
+add-end : tie.Need-add-end Inv-loop μ-loop
+add-end c = omega (arith, inside c, c .before .before .before .before .before .before .before .pre .3)
+
+mul-row-line : tie.Need-mul-row-line Inv-loop μ-loop
+mul-row-line c =
+    omega (
+      arith,
+      inside (c .before .before),
+      c .before .before .before .before .before .before .before .before .before .pre .3,
+    )
+
+sub-row-line : tie.Need-sub-row-line Inv-loop μ-loop
+sub-row-line c = omega arith
+
+part-row-line-start : tie.Need-part-row-line-start Inv-loop μ-loop
+part-row-line-start c = omega arith
+
+part-row-line-end : tie.Need-part-row-line-end Inv-loop μ-loop
+part-row-line-end c =
+    omega (arith, inside (c .before .before), c .before .before .before .loop .inv .distances-long)
+
+mul-row-line-2 : tie.Need-mul-row-line-2 Inv-loop μ-loop
+mul-row-line-2 c =
+    omega (
+      arith,
+      inside (c .before .before .before),
+      c .before .before .before .before .before .before .before .before .before .before .pre .4,
+    )
+
+sub-row-line-2 : tie.Need-sub-row-line-2 Inv-loop μ-loop
+sub-row-line-2 c = omega arith
+
+part-row-line-start-2 : tie.Need-part-row-line-start-2 Inv-loop μ-loop
+part-row-line-start-2 c = omega arith
+
+part-row-line-end-2 : tie.Need-part-row-line-end-2 Inv-loop μ-loop
+part-row-line-end-2 c =
+    omega (arith, inside (c .before .before .before), c .before .before .before .before .loop .inv .sites-long)
+
+row-line-requires : tie.Need-row-line-requires Inv-loop μ-loop
+row-line-requires c κs =
+    let l = c .before .before .before .before in
+    let i = l .before .loop .inv in
+    let s = l .before .before .before .before .before .before .before in
+    let w = length (s .args .values .now) in
+    let t = l .loop-test .taken in
+    rw (i .values-long) (
+      s .pre .0,
+      t,
+      i .columns,
+      i .scratch-long,
+      row-part-long w (l .before .loop .distances) t (i .distances-long),
+      row-part-long w (l .before .loop .sites) t (i .sites-long),
+    )
+
+add-y : tie.Need-add-y Inv-loop μ-loop
+add-y c = omega (arith, turn c .loop-test .taken)
+
+loop-less : tie.Need-loop-less Inv-loop μ-loop
+loop-less c = omega (arith, turn c .loop-test .taken)
+
+loop-again : tie.Need-loop-again Inv-loop μ-loop
+loop-again c =
+    let l = turn c in
+    let m = c .before .before .before .before .before .before .before .before .row-line in
+    crossing-more (m .last .1 .1 .1 .1 .1 .1 .0) (m .last .1 .1 .1 .1 .1 .1 .1 .0) (l .before .loop .inv)
+    (l .loop-test .taken) (m .ensures)
+    (m .kept .1 .1 .1 .1 .0) (m .kept .1 .1 .1 .1 .1 .0) (m .kept .1 .1 .1 .1 .1 .1 .0)
+    (m .kept .1 .1 .1 .1 .1 .1 .1 .0)
+
+same-length : tie.Need-same-length Inv-loop μ-loop
+same-length c = c .before .loop .inv .values-long
+
+same-length-2 : tie.Need-same-length-2 Inv-loop μ-loop
+same-length-2 c =
+    c .before .loop .inv .scratch-long ∙ sym (c .before .before .before .before .before .before .before .pre .2)
+
+same-length-3 : tie.Need-same-length-3 Inv-loop μ-loop
+same-length-3 c =
+    c .before .loop .inv .distances-long ∙ sym (c .before .before .before .before .before .before .before .pre .3)
+
+same-length-4 : tie.Need-same-length-4 Inv-loop μ-loop
+same-length-4 c =
+    c .before .loop .inv .sites-long ∙ sym (c .before .before .before .before .before .before .before .pre .4)
+
+returns : tie.Need-returns Inv-loop μ-loop
+returns c = λ j l. c .before .loop .inv .left j (omega arith)
+
+pub all-rows-spec : {M : Type 1} → statement M
+all-rows-spec =
+    tie.close
+    (tie.spec
+    Inv-loop
+    μ-loop
+    loop-holds
+    mul-at
+    add-end
+    mul-row-line
+    sub-row-line
+    part-row-line-start
+    part-row-line-end
+    mul-row-line-2
+    sub-row-line-2
+    part-row-line-start-2
+    part-row-line-end-2
+    row-line-requires
+    add-y
+    loop-less
+    loop-again
+    same-length
+    same-length-2
+    same-length-3
+    same-length-4
+    returns)

@@ -1,0 +1,81 @@
+-- `cost_lines::row::fill` meets its contract. The loop's invariant: the values before i are those of their words. The
+-- measure is what is left of the row. Assumes nothing.
+use Prim.Native.Nat.{_-_, _≤_}
+use native.Mathlib.Omega.{arith}
+use lib.ListN.{length, getD}
+use Rattle.rules.proofs.Filling.{Filling, filling-none, filling-more}
+use Rattle.cost_lines.specs.Lines.{column-value}
+use Rattle.cost_lines.proofs.row.fill.Statement.{statement}
+use Rattle.cost_lines.proofs.row.fill.Tie as tie
+
+abbrev Inv-loop : tie.InvT-loop
+Inv-loop g y costs words values₀ w i₀ values i =
+    Filling (λ k. column-value (g .kind) (length words) costs y k (getD words k 0)) values₀ values i
+    × (i ≤ length words)
+
+abbrev μ-loop : tie.MeasureT-loop
+μ-loop g y costs words values₀ w i₀ values i = length words - i
+
+loop-holds : tie.Need-loop-holds Inv-loop μ-loop
+loop-holds c = (filling-none, omega arith)
+
+mul-column-value : tie.Need-mul-column-value Inv-loop μ-loop
+mul-column-value c = omega arith
+
+shared-slice-read-column-value : tie.Need-shared-slice-read-column-value Inv-loop μ-loop
+shared-slice-read-column-value c = omega arith
+
+column-value-requires : tie.Need-column-value-requires Inv-loop μ-loop
+column-value-requires c κs =
+    let p = c .before .before .before .before .before .before .pre in
+    (p .0, p .1, p .3 (c .before .before .loop .i) (c .before .loop-test .taken))
+
+mul-values : tie.Need-mul-values Inv-loop μ-loop
+mul-values c = omega arith
+
+slice-write-values : tie.Need-slice-write-values Inv-loop μ-loop
+slice-write-values c =
+    omega (
+      arith,
+      c .before .before .before .loop .inv .0 .as-long,
+      c .before .before .before .before .before .before .before .pre .2,
+    )
+
+add-i : tie.Need-add-i Inv-loop μ-loop
+add-i c = omega arith
+
+loop-less : tie.Need-loop-less Inv-loop μ-loop
+loop-less c = omega arith
+
+loop-again : tie.Need-loop-again Inv-loop μ-loop
+loop-again c = (
+  filling-more (c .before .before .before .loop .inv .0)
+      (omega (arith, c .before .before .before .before .before .before .before .pre .2)) (c .column-value .ensures),
+  omega arith,
+)
+
+same-length : tie.Need-same-length Inv-loop μ-loop
+same-length c = c .before .loop .inv .0 .as-long
+
+returns : tie.Need-returns Inv-loop μ-loop
+returns c =
+    let i = c .before .loop .inv in
+    record { each = λ k h. i .0 .done k (omega arith) }
+
+pub fill-spec : {M : Type 1} → statement M
+fill-spec =
+    tie.close
+    (tie.spec
+    Inv-loop
+    μ-loop
+    loop-holds
+    mul-column-value
+    shared-slice-read-column-value
+    column-value-requires
+    mul-values
+    slice-write-values
+    add-i
+    loop-less
+    loop-again
+    same-length
+    returns)

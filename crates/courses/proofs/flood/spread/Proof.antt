@@ -1,0 +1,114 @@
+-- `courses::flood::spread` meets its contract. The loop's invariant: the sides before k have come up. The measure is how many
+-- of the four are left. Assumes nothing.
+use mathlib.Core.Path.{refl, _∙_, sym}
+use Prim.Native.Nat.{_-_, _≤_, _<_}
+use native.Mathlib.Omega.{arith}
+use lib.ListN.{length}
+use Rattle.courses.specs.Labelling.{at}
+use Rattle.courses.proofs.Flowing.{queue-few, head-cell}
+use Rattle.courses.proofs.Touching.{Spreading, none-touched, room, touched, spread-out}
+use Rattle.courses.proofs.flood.spread.Statement.{statement}
+use Rattle.courses.proofs.flood.spread.Tie as tie
+
+abbrev Inv-loop : tie.InvT-loop
+Inv-loop w v words labels₀ queue₀ head entered n c d x tail₀ k₀ labels queue tail k =
+    Spreading w words v (at queue₀ 0) head c d labels queue tail k
+
+abbrev μ-loop : tie.MeasureT-loop
+μ-loop w v words labels₀ queue₀ head entered n c d x tail₀ k₀ labels queue tail k = 4 - k
+
+-- the way back from the head's cell to the entry
+abbrev entry : tie.After-wide Inv-loop μ-loop → tie.Start Inv-loop μ-loop
+entry c = c .before .before .before .before .before
+
+-- the head's cell is a cell, and has a label
+abbrev cell-read : (c : tie.After-wide Inv-loop μ-loop) → let a = entry c .args in
+    (c .wide .result < length (a .words .now)) × (0 < at (a .labels .now) (c .wide .result))
+    × (at (a .labels .now) (c .wide .result) ≤ length (a .words .now))
+cell-read c = head-cell (entry c .pre .2) (entry c .pre .1) (c .wide .ensures)
+
+mul-wide : tie.Need-mul-wide Inv-loop μ-loop
+mul-wide c = let p = c .before .before .before .pre in omega (arith, p .0 .board .to, p .1, queue-few (p .2))
+
+slice-read-wide : tie.Need-slice-read-wide Inv-loop μ-loop
+slice-read-wide c = let p = c .before .before .before .before .pre in omega (arith, p .0 .queue-long, p .1, queue-few (p .2))
+
+wide-requires : tie.Need-wide-requires Inv-loop μ-loop
+wide-requires c κs = tt
+
+mul-d : tie.Need-mul-d Inv-loop μ-loop
+mul-d c = omega (arith, cell-read c, entry c .pre .0 .board .to)
+
+slice-read-d : tie.Need-slice-read-d Inv-loop μ-loop
+slice-read-d c = omega (arith, cell-read (c .before), entry (c .before) .pre .0 .labels-long)
+
+add-d : tie.Need-add-d Inv-loop μ-loop
+add-d c = omega (arith, cell-read (c .before), entry (c .before) .pre .0 .board .to)
+
+rem-x : tie.Need-rem-x Inv-loop μ-loop
+rem-x c = entry (c .before) .pre .0 .board .from
+
+loop-holds : tie.Need-loop-holds Inv-loop μ-loop
+loop-holds c =
+    let p = entry (c .before) .pre in
+    none-touched (p .0 .labels-long) (p .0 .queue-long) (p .1) (c .before .wide .ensures) (p .2)
+
+beside-requires : tie.Need-beside-requires Inv-loop μ-loop
+beside-requires c κs =
+    let h = c .before .before .before in
+    (entry h .pre .0 .board, cell-read h .0, refl, omega (arith, c .loop-test .taken))
+
+touch-requires : tie.Need-touch-requires Inv-loop μ-loop
+touch-requires c κs =
+    let l = c .before .before .before .before in
+    let i = l .loop .inv in (
+      i .labels-long,
+      i .queue-long,
+      omega (arith, entry (l .before .before) .pre .0 .board .to),
+      room i (c .before .before .beside .result),
+    )
+
+add-k : tie.Need-add-k Inv-loop μ-loop
+add-k c = omega (arith, c .before .before .before .before .before .before .before .before .loop-test .taken)
+
+loop-less : tie.Need-loop-less Inv-loop μ-loop
+loop-less c = omega (arith, c .before .before .before .before .before .before .before .before .loop-test .taken)
+
+loop-again : tie.Need-loop-again Inv-loop μ-loop
+loop-again c =
+    let t = c .before .before .before .before in
+    let l = t .before .before .before .before in
+    touched (l .before .loop .inv) (entry (l .before .before .before) .pre .0 .board .from) (omega (arith, l .loop-test .taken))
+    (t .before .before .before .beside .ensures) (t .touch .ensures)
+
+same-length : tie.Need-same-length Inv-loop μ-loop
+same-length c = c .before .loop .inv .labels-long ∙ sym (entry (c .before .before .before) .pre .0 .labels-long)
+
+same-length-2 : tie.Need-same-length-2 Inv-loop μ-loop
+same-length-2 c = c .before .loop .inv .queue-long ∙ sym (entry (c .before .before .before) .pre .0 .queue-long)
+
+returns : tie.Need-returns Inv-loop μ-loop
+returns c = spread-out (c .before .loop .inv) (entry (c .before .before .before) .pre .0 .board .from) (c .loop-test .left)
+
+pub spread-spec : {M : Type 1} → statement M
+spread-spec =
+    tie.close
+    (tie.spec
+    Inv-loop
+    μ-loop
+    mul-wide
+    slice-read-wide
+    wide-requires
+    mul-d
+    slice-read-d
+    add-d
+    rem-x
+    loop-holds
+    beside-requires
+    touch-requires
+    add-k
+    loop-less
+    loop-again
+    same-length
+    same-length-2
+    returns)

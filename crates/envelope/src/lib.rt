@@ -20,7 +20,7 @@ pub struct Gauge {
 }
 
 // The square of a whole offset. Every square that the engine and the changeover need comes from here.
-pub fn square(k: usize) -> u64
+fn square(k: usize) -> u64
     requires { ⌜ k < side-limit ⌝ }
     ensures { λ r. ⌜ (r ≡ k * k) × (r < side-limit * side-limit) ⌝ }
 {

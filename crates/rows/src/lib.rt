@@ -30,7 +30,7 @@ fn value(g: Gauge, y: usize, word: u32) -> u64
 }
 
 // Fill for pictures: the values of row y from its words.
-pub fn fill(g: Gauge, y: usize, words: &[u32], values: &mut [u64])
+fn fill(g: Gauge, y: usize, words: &[u32], values: &mut [u64])
     requires { ⌜ Known g × (y < side-limit) × (length (now values) ≡ length (now words))
         × ((i : ℕ) → i < length (now words) → Named side-limit (getD (now words) i 0)) ⌝ }
     ensures { λ _. ⌜ Filled g y (now (words .entry)) (now (values .exit)) ⌝ }

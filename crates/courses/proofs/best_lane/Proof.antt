@@ -87,7 +87,8 @@ set-all-requires-2 c κs = tt
 cast-t29 : tie.Need-cast-t29
 cast-t29 c =
     let t = c .before .before .before .before .before .before .before .before .before .before in
-    omega (arith, few t, entry (measured (flooded t)) .pre .0 .board .to)
+    let p = entry (measured (flooded t)) .pre in
+    omega (arith, few t, p .0 .board .to, p .1)
 
 same-length : tie.Need-same-length
 same-length c =

@@ -1,33 +1,18 @@
--- The cost entry: what a call answers that is refused, and what the map leaves where none of the tests holds. The map is
--- made in the front of each buffer, so what lies beyond is as it was. Assumes nothing.
-use mathlib.Core.Path.{_≡_, refl}
-use mathlib.Core.Logic.{_≢_}
+-- The cost entry: what the map leaves where none of the tests holds. The map is made in the front of each buffer, so what
+-- lies beyond is as it was. Assumes nothing.
+use mathlib.Core.Path.{_≡_}
 use mathlib.Core.List.{List, _++_}
 use Prim.Native.Nat.{ℕ, _*_, _<_}
 use native.Mathlib.Nat.{le-refl}
 use native.Mathlib.Omega.{arith}
 use lib.ListN.{length, getD, drop, List·getD-append}
-use Rattle.rules.specs.Board.{cell}
-use Rattle.rules.specs.Refusals.{answer, cost-rows, scratch-words}
+use Rattle.rules.specs.Refusals.{scratch-words}
 use Rattle.rules.specs.Accepted.{CostAccepted}
 use Rattle.rules.specs.Tie.{CostMapWord, CostMapSite}
-use Rattle.rules.specs.Calls.{Buffers, buffers, Beyond, MapLeft, CostCall}
+use Rattle.rules.specs.Calls.{buffers, Beyond, MapLeft}
 use Rattle.rules.proofs.Board.{cell-in}
 use Rattle.rules.proofs.Parts.{front-beyond}
 use Rattle.cost_lines.specs.Left.{Passed, RowsLeft}
-
-module _ {w h kind : ℕ} {costs : List ℕ} {b : Buffers} where
-  -- a call that is refused leaves everything
-  pub refused-call : {n : ℕ}
-      → n ≡ answer (cost-rows w h kind costs (length (b .distances)) (length (b .sites)) (length (b .scratch)))
-      → n ≢ 0 → CostCall w h kind costs b n b
-  refused-call is some = record { answered = is; refused = λ _. refl; done = λ z. absurd (some z) }
-
-  -- a call that is accepted answers 0
-  pub made-call : {after : Buffers}
-      → 0 ≡ answer (cost-rows w h kind costs (length (b .distances)) (length (b .sites)) (length (b .scratch)))
-      → MapLeft w h (CostMapWord kind w h costs) (CostMapSite kind w h costs) b after → CostCall w h kind costs b 0 after
-  made-call is left = record { answered = is; refused = λ some. absurd (some refl); done = λ _. left }
 
 -- the lengths of the buffers do not matter where they are cut to the board's size
 pub passed : {w h kind : ℕ} {costs : List ℕ} {distances sites scratch : ℕ}

@@ -15,6 +15,7 @@ use Rattle.rules.specs.Refusals.{bad-changeover}
 use Rattle.rules.specs.Calls.{ChangeoverCall}
 use Rattle.rules.proofs.Changeover.{changeover-floor, floor-up, floor-down}
 use Rattle.rules.proofs.Refusals.{Comparable, changeover-good, holds-unless}
+use Rattle.rules.proofs.Calls.{refused-call, made-call}
 
 -- nought less a small number is a whole number of 32 bits
 pub below-fits : (n : ℕ) → n < 2 ^ 31 → SFits w32 (pos 0 -ℤ pos n)
@@ -24,7 +25,7 @@ below-fits (suc n) h = record { sfits = rw (lt-ltb 0 (suc n) (omega arith)) (ome
 -- the row holds: 9
 pub refused : {i u a b : ℕ} (z : ℤ) → (bad-changeover i u a b ≡ false → ⊥) → ChangeoverCall i u a b 9 z
 refused {i} {u} {a} {b} z bad =
-    record { answered = rw (holds-unless (bad-changeover i u a b) bad); done = λ e. absurd (omega arith) }
+    refused-call (rw (holds-unless (bad-changeover i u a b) bad)) (λ e. omega arith) tt
 
 module _ {i u a b : ℕ} (g : Comparable i u a b) where
   -- the square of a column is small
@@ -34,10 +35,8 @@ module _ {i u a b : ℕ} (g : Comparable i u a b) where
   -- the answer is the floor
   answered : (z : ℤ) → z ≡ floor (numerator i u a b) (divisor i u) → ChangeoverCall i u a b 0 z
   answered z is =
-      record {
-        answered = rw (changeover-good i u a b g);
-        done = λ e. subst (λ q. Changeover i u a b q) (sym is) (changeover-floor i u a b (g .left));
-      }
+      made-call (rw (changeover-good i u a b g))
+      (subst (λ q. Changeover i u a b q) (sym is) (changeover-floor i u a b (g .left)))
 
   -- not below zero
   pub answered-up : {p : ℕ} → i * i + a ≤ u * u + b → p ≡ (u * u + b - (i * i + a)) / (2 * (u - i))

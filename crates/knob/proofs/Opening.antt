@@ -12,6 +12,7 @@ use Rattle.rules.specs.Refusals.{bad-setting}
 use Rattle.rules.specs.Calls.{Opened, OpeningCall}
 use Rattle.rules.proofs.Knob.{good-k-unique, setting-good, opened-good}
 use Rattle.rules.proofs.Refusals.{holds-unless}
+use Rattle.rules.proofs.Calls.{refused-call, made-call}
 use Rattle.knob.specs.declared.Value.{Value}
 use Rattle.knob.specs.declared.Value.the-variants.{Whole, Bad}
 use Rattle.knob.specs.Value.{Opens}
@@ -28,7 +29,7 @@ refused : (s : Setting) → ((a b : ℕ) → Opened s a b → ⊥) → OpeningCa
 refused s shut =
     let bad : bad-setting s ≡ true =
     holds-unless (bad-setting s) (λ e. let (a, b, o) = setting-good s e in shut a b o) in
-    record { answered = rw bad; done = λ z. absurd (omega arith) }
+    refused-call (rw bad) (λ z. omega arith) tt
 
 -- the pitch is bad
 pub pitch-bad : (s : Setting) → ((k : ℕ) → Good (pitch-word s) k → ⊥) → OpeningCall s 8 0 0
@@ -42,4 +43,4 @@ radius-bad s bad = refused s (λ a b o. bad b (o .radius-good))
 pub both-good : (s : Setting) {a b : ℕ} → Good (pitch-word s) a → Good (radius-word s) b → OpeningCall s 0 a b
 both-good s p r =
     let o : Opened s _ _ = record { pitch-good = p; radius-good = r } in
-    record { answered = rw (opened-good o); done = λ z. o }
+    made-call (rw (opened-good o)) o

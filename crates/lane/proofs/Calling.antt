@@ -15,11 +15,10 @@ use Rattle.rules.specs.Board.{cell, Sides}
 use Rattle.rules.specs.Refusals.{answer, any, bad-sides, bad-buffers, bad-byte, no-bore, picture-rows, lane-rows}
 use Rattle.rules.specs.Accepted.{LaneAccepted}
 use Rattle.rules.specs.Tie.{MapWord}
-use Rattle.rules.specs.Calls.{Buffers, buffers, PictureLeft, LaneLeft, LaneCall}
-use Rattle.rules.proofs.Board.{cell-in}
+use Rattle.rules.specs.Calls.{buffers, PictureLeft, LaneLeft}
+use Rattle.rules.proofs.Board.{cell-in, cells-few}
 use Rattle.rules.proofs.Parts.{front-beyond}
 use Rattle.rules.proofs.Refusals.{kind-good, weights-good, or-first, lane-row-by-row}
-use Rattle.maps.proofs.Rows.{cells-few}
 use Rattle.courses.specs.Around.{Rows, Lists}
 use Rattle.courses.specs.Labelling.{at}
 use Rattle.courses.specs.Course.{Laid}
@@ -56,21 +55,6 @@ module _ (w h : ℕ) (picture : List ℕ) (from to : ℕ) where
       let five : any bad-byte picture ≡ false = passed 2 (lit< tt) in
       let six : no-bore picture ≡ false = passed 3 (lit< tt) in
       rw (one, kind-good 3 0 (omega arith), weights-good 0 0 0 (λ z. absurd (omega arith)), four, five, six)
-
-  -- a call that is refused leaves everything
-  pub refused-call : {n : ℕ} {b : Buffers} {path : List ℕ}
-      → n ≡ answer (lane-rows w h picture from to (length (b .distances)) (length (b .sites)) (length (b .scratch))
-      (length path))
-      → (n ≡ 0 → ⊥) → LaneCall w h picture from to b path n 0 0 b path
-  refused-call is some = record { answered = is; refused = λ _. (refl, refl); done = λ z. absurd (some z) }
-
-  -- a call that is accepted answers 0
-  pub found-call : {broad cells : ℕ} {b b′ : Buffers} {path path′ : List ℕ}
-      → 0 ≡ answer (lane-rows w h picture from to (length (b .distances)) (length (b .sites)) (length (b .scratch))
-      (length path))
-      → LaneLeft w h picture from to b path broad cells b′ path′
-      → LaneCall w h picture from to b path 0 broad cells b′ path′
-  found-call is left = record { answered = is; refused = λ some. absurd (some refl); done = λ _. left }
 
   module _ {distances sites scratch distances′ sites′ scratch′ : List ℕ} (path : List ℕ)
       (A : LaneAccepted w h picture from to (length distances) (length sites) (length scratch) (length path))

@@ -1,7 +1,9 @@
-// The lane entry: its tests, the kind 0 map, and the best lane over the map's words.
+// The lane entry: the refusals first, then the kind 0 map, and the best lane over the map's words.
 use courses::Course;
 use courses::best_lane;
 use maps::picture_map;
+use refusals::lanes::LaneAsked;
+use refusals::lanes::of_lane;
 use rules::LaneAnswer;
 ghost use mathlib.Core.Path.{_≡_};
 ghost use lib.ListN.{length};
@@ -9,55 +11,9 @@ ghost use Rattle.rules.specs.Refusals.{answer, lane-rows};
 ghost use Rattle.rules.specs.Answers.{lane-number, lane-width, lane-cells};
 ghost use Rattle.rules.specs.Calls.{buffers, LaneLeft, LaneCall};
 
-// What is asked: the board's sides, and the cells that the lane joins.
-struct Asked {
-    w: u32,
-    h: u32,
-    from: u32,
-    to: u32,
-}
-
-// The number of the first row of the table that holds of a lane call, 0 for none. The buffers go by their lengths.
-fn refusal(
-    a: Asked,
-    picture: &[u8],
-    distances: usize,
-    sites: usize,
-    scratch: usize,
-    path: usize,
-) -> u32
-    ensures { λ r. ⌜ r ≡ answer (lane-rows (a .w) (a .h) (now (picture .entry)) (a .from) (a .to) distances sites scratch path) ⌝ }
-{
-    if entry::sides(a.w, a.h) {
-        return 1;
-    }
-    let across = a.w as usize;
-    let down = a.h as usize;
-    let cells = across * down;
-    if entry::buffers(across, down, picture.len(), distances, sites, scratch) {
-        return 4;
-    }
-    if path < cells {
-        return 4;
-    }
-    if entry::bytes(picture) {
-        return 5;
-    }
-    if entry::boreless(picture) {
-        return 6;
-    }
-    if cells <= a.from as usize {
-        return 7;
-    }
-    if cells <= a.to as usize {
-        return 7;
-    }
-    0
-}
-
 // The lane of a call that no row refuses: the kind 0 map, whose own tests then pass too, and the best lane over its words.
 fn lay(
-    a: Asked,
+    a: LaneAsked,
     picture: &[u8],
     distances: &mut [u32],
     sites: &mut [u32],
@@ -102,8 +58,8 @@ pub fn widest(
         (lane-number r) (lane-width r) (lane-cells r)
         (buffers (now (distances .exit)) (now (sites .exit)) (now (scratch .exit))) (now (path .exit)) ⌝ }
 {
-    let a = Asked { w, h, from, to };
-    let refused = refusal(
+    let a = LaneAsked { w, h, from, to };
+    let refused = of_lane(
         a,
         picture,
         distances.len(),

@@ -4,13 +4,13 @@ use mathlib.Core.Path.{_≡_, refl, sym, _∙_, ap, subst, subst₂}
 use mathlib.Core.Logic.{inl, inr, ⊎-elim, by-cases}
 use mathlib.Core.List.{List}
 use Prim.Native.Nat.{ℕ, _+_, _-_, _*_, _≤_, _<_}
-use native.Mathlib.Nat.{mul-le-mul, mul-le-mul-right, eq-or-lt-of-le}
+use native.Mathlib.Nat.{mul-le-mul-right, eq-or-lt-of-le}
 use native.Mathlib.Decide.{ℕ-discrete}
 use native.Mathlib.Omega.{arith}
 use lib.ListN.{length, getD, drop}
 use lib.Seq.{drop-drop}
 use borrow.Rule.Slice.PartMut.{putMid, drop-put, same-len-mid}
-use Rattle.rules.specs.Limits.{side-limit, mark}
+use Rattle.rules.specs.Limits.{mark}
 use Rattle.rules.specs.Board.{Sides, cell, away}
 use Rattle.rules.specs.Columns.{RowWord}
 use Rattle.rules.specs.Calls.{Beyond}
@@ -153,9 +153,6 @@ module _ {g : Gauge} {w h : ℕ} {before d s : List ℕ} (sides : Sides w h) whe
       → RowsMade g w h (y + 1) before after′ d (putMid k (k + w - k) d′ drow) s (putMid k (k + w - k) s′ srow)) (sym e)
       (rows-more drow srow l d-long s-long drow-long srow-long R)
 
--- a board has few cells, and its rows begin among them
-pub cells-few : {w h : ℕ} → Sides w h → w * h ≤ side-limit * side-limit
-cells-few s = mul-le-mul (s .width-to) (s .height-to)
-
+-- a row begins among the cells of the board
 pub row-in-cells : (w : ℕ) {h y at : ℕ} → at ≡ y * w → y < h → at + w ≤ w * h
 row-in-cells w e l = omega (arith, row-room w l)

@@ -1,16 +1,16 @@
-// The public picture entry: the tests in the paper's order, then the map.
+// The public picture entry: the refusals first, then the map.
 use chamfer::scan_map;
 use columns::sweep;
 use entry::scratch_words;
 use entry::set_front;
 use envelope::Gauge;
 use lines::all_rows;
+use refusals::pictures::PictureAsked;
+use refusals::pictures::of_picture;
 use rules::MARK;
 ghost use Prim.Native.Nat.{ℕ, _<_};
-ghost use mathlib.Core.Path.{_≡_};
 ghost use lib.ListN.{length};
 ghost use Rattle.rules.specs.Measures.{chamfer-kind};
-ghost use Rattle.rules.specs.Refusals.{answer, picture-rows};
 ghost use Rattle.rules.specs.Accepted.{PictureAccepted};
 ghost use Rattle.rules.specs.Calls.{buffers, PictureLeft, PictureCall};
 
@@ -58,45 +58,14 @@ fn scanned_map(
     set_front(scratch, scratch_words(w, h), 0);
 }
 
-// What is asked: the board's sides, the kind, and the weights, which only kind 3 reads.
-struct Asked {
-    w: u32,
-    h: u32,
-    kind: u32,
-    d1: u32,
-    d2: u32,
-}
-
-// The number of the first row of the table that holds of a picture call, 0 for none. The buffers go by their lengths.
-fn refusal(a: Asked, picture: &[u8], distances: usize, sites: usize, scratch: usize) -> u32
-    ensures { λ r. ⌜ r ≡ answer (picture-rows (a .w) (a .h) (a .kind) (a .d1) (a .d2) (now (picture .entry))
-        distances sites scratch) ⌝ }
-{
-    if entry::sides(a.w, a.h) {
-        return 1;
-    }
-    if 3 < a.kind {
-        return 2;
-    }
-    if entry::weights(a.kind, a.d1, a.d2) {
-        return 3;
-    }
-    let w = a.w as usize;
-    let h = a.h as usize;
-    if entry::buffers(w, h, picture.len(), distances, sites, scratch) {
-        return 4;
-    }
-    if entry::bytes(picture) {
-        return 5;
-    }
-    if entry::boreless(picture) {
-        return 6;
-    }
-    0
-}
-
 // The map of a picture that has passed the tests.
-fn make(a: Asked, picture: &[u8], distances: &mut [u32], sites: &mut [u32], scratch: &mut [u32])
+fn make(
+    a: PictureAsked,
+    picture: &[u8],
+    distances: &mut [u32],
+    sites: &mut [u32],
+    scratch: &mut [u32],
+)
     requires { ⌜ PictureAccepted (a .w) (a .h) (a .kind) (a .d1) (a .d2) (now picture) (length (now distances))
         (length (now sites)) (length (now scratch)) ⌝ }
     ensures { λ _. ⌜ PictureLeft (a .w) (a .h) (a .kind) (a .d1) (a .d2) (now (picture .entry))
@@ -128,8 +97,8 @@ pub fn picture_map(
         (buffers (now (distances .entry)) (now (sites .entry)) (now (scratch .entry)))
         r (buffers (now (distances .exit)) (now (sites .exit)) (now (scratch .exit))) ⌝ }
 {
-    let a = Asked { w, h, kind, d1, d2 };
-    let refused = refusal(a, picture, distances.len(), sites.len(), scratch.len());
+    let a = PictureAsked { w, h, kind, d1, d2 };
+    let refused = of_picture(a, picture, distances.len(), sites.len(), scratch.len());
     if refused != 0 {
         return refused;
     }

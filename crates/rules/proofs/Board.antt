@@ -5,15 +5,20 @@
 use mathlib.Core.Path.{_≡_}
 use mathlib.Core.Logic.{by-cases}
 use Prim.Native.Nat.{ℕ, zero, suc, _+_, _*_, _≤_, _<_, min}
-use native.Mathlib.Nat.{mul-comm, zero-lt-suc, mod-lt, div-add-mod', div-lt-iff-lt-mul}
+use native.Mathlib.Nat.{mul-comm, mul-le-mul, zero-lt-suc, mod-lt, div-add-mod', div-lt-iff-lt-mul}
 use native.Mathlib.Decide.{decLe, decLt}
 use native.Mathlib.Omega.{arith}
 use lib.Arith.{digits-lt, digits-div, digits-mod}
-use Rattle.rules.specs.Board.{cell, column, row, away}
+use Rattle.rules.specs.Limits.{side-limit}
+use Rattle.rules.specs.Board.{Sides, cell, column, row, away}
 
 -- a cell of the board has a number below w·h
 pub cell-in : {w h x y : ℕ} → x < w → y < h → cell w x y < w * h
 cell-in {w} {h} l m = rw (mul-comm w h) (digits-lt m l)
+
+-- a board has few cells
+pub cells-few : {w h : ℕ} → Sides w h → w * h ≤ side-limit * side-limit
+cells-few s = mul-le-mul (s .width-to) (s .height-to)
 
 -- the column of a cell's number is the cell's column
 pub column-of : {w x : ℕ} (y : ℕ) → x < w → column w (cell w x y) ≡ x

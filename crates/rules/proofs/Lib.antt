@@ -8,6 +8,7 @@ pub mod Changeover
 pub mod Knob
 pub mod BenchFile
 pub mod Refusals
+pub mod Calls
 pub mod Lane
 pub mod LaneLabels
 pub mod LaneTest

@@ -34,7 +34,8 @@ use Rattle.rules.specs.Measures.{chamfer-kind}
 use Rattle.rules.specs.Lane.{Lane}
 use Rattle.rules.specs.Limits.{bench-side}
 use Rattle.rules.specs.BenchFile.{bored-by, bores, text}
-use Rattle.rules.specs.Calls.{Buffers, Beyond, MapLeft, SiteWord, PictureLeft, LaneLeft, ClearLeft, BenchRead}
+use Rattle.rules.specs.Refusals.{Row}
+use Rattle.rules.specs.Calls.{Call, Buffers, Beyond, MapLeft, SiteWord, PictureLeft, LaneLeft, ClearLeft, BenchRead}
 use Rattle.rules.specs.Calls.{PictureCall, CostCall, LaneCall, OpeningCall, ClearCall, ChangeoverCall, BenchCall, BenchPrints}
 use Rattle.rules.specs.Answers.{opening-number, opening-a, opening-b, changeover-number, changeover-at}
 use Rattle.rules.specs.Answers.{lane-number, lane-width, lane-cells}
@@ -47,16 +48,25 @@ use Rattle.rules.proofs.BenchFile.{farthest-unique}
 use Rattle.rules.proofs.Lane.{best-unique-words}
 use Rattle.rules.proofs.Refusals.{clear-accepted}
 
--- two calls whose numbers are computed alike answer one number, and where it is 0 what they leave agrees
-agreed : {n n′ m : ℕ} {Left Left′ Same : Type 0} → n ≡ m → n′ ≡ m → (n ≡ 0 → Left) → (n′ ≡ 0 → Left′)
-    → (Left → Left′ → Same) → (n ≡ n′) × (n ≡ 0 → Same)
-agreed p q left left′ one = (p ∙ sym q, λ z. one (left z) (left′ (q ∙ sym p ∙ z)))
+-- two calls of one table of rows answer one number, and where it is 0 what they leave agrees
+agreed : {rows : List Row} {n n′ : ℕ} {Kept Kept′ Done Done′ Same : Type 0} → Call rows n Kept Done
+    → Call rows n′ Kept′ Done′ → (Done → Done′ → Same) → (n ≡ n′) × (n ≡ 0 → Same)
+agreed p q one =
+    (p .answered ∙ sym (q .answered), λ z. one (p .done z) (q .done (q .answered ∙ sym (p .answered) ∙ z)))
 
 -- what a refusal leaves as it was, and an accepted call leaves in one way, is left in one way
 settled : {A : Type 0} {n n′ : ℕ} {before after after′ : A} → n ≡ n′ → (n ≢ 0 → after ≡ before)
     → (n′ ≢ 0 → after′ ≡ before) → (n ≡ 0 → after ≡ after′) → after ≡ after′
 settled {n = n} same kept kept′ done =
     by-cases (ℕ-discrete n 0) done (λ z. kept z ∙ sym (kept′ (λ e. z (same ∙ e))))
+
+-- so two calls whose refusals keep one list answer one number and leave that list in one way
+left-pinned : {A : Type 0} {rows : List Row} {n n′ : ℕ} {before after after′ : A} {Done Done′ : Type 0}
+    → Call rows n (after ≡ before) Done → Call rows n′ (after′ ≡ before) Done′ → (Done → Done′ → after ≡ after′)
+    → (n ≡ n′) × (after ≡ after′)
+left-pinned p q one =
+    let (same, left) = agreed p q one in
+    (same, settled same (p .refused) (q .refused) left)
 
 -- what every cell of the board has, every number below w·h has
 each-cell : (w : ℕ) {h : ℕ} (P : ℕ → Type 0) → ((x y : ℕ) → x < w → y < h → P (cell w x y)) → (c : ℕ) → c < w * h → P c
@@ -113,19 +123,14 @@ picture-left-pinned p q = map-pinned (λ x y d d′ l m. least-unique) (λ x y s
 pub picture-pinned : {w h kind d1 d2 : ℕ} {picture : List ℕ} {before after after′ : Buffers} {n n′ : ℕ}
     → PictureCall w h kind d1 d2 picture before n after → PictureCall w h kind d1 d2 picture before n′ after′
     → (n ≡ n′) × (after ≡ after′)
-picture-pinned p q =
-    let (same, one) = agreed (p .answered) (q .answered) (p .done) (q .done) picture-left-pinned in
-    (same, settled same (p .refused) (q .refused) one)
+picture-pinned p q = left-pinned p q picture-left-pinned
 
 -- a cost call answers one number and leaves the buffers in one way
 pub cost-pinned : {w h kind : ℕ} {costs : List ℕ} {before after after′ : Buffers} {n n′ : ℕ}
     → CostCall w h kind costs before n after → CostCall w h kind costs before n′ after′
     → (n ≡ n′) × (after ≡ after′)
 cost-pinned p q =
-    let (same, one) =
-    agreed (p .answered) (q .answered) (p .done) (q .done)
-    (map-pinned (λ x y d d′ l m. least-unique) (λ x y s s′ l m. cost-map-site-unique)) in
-    (same, settled same (p .refused) (q .refused) one)
+    left-pinned p q (map-pinned (λ x y d d′ l m. least-unique) (λ x y s s′ l m. cost-map-site-unique))
 
 -- an accepted lane call finds one width and one number of cells, and leaves the path and the buffers in one way
 lane-left-pinned : {w h : ℕ} {picture : List ℕ} {from to : ℕ} {before after after′ : Buffers}
@@ -157,7 +162,7 @@ pub lane-pinned : {w h : ℕ} {picture : List ℕ} {from to : ℕ} {before after
     → LaneCall w h picture from to before path n′ broad′ cells′ after′ exit′
     → (n ≡ n′) × (after ≡ after′) × (exit ≡ exit′) × (n ≡ 0 → (broad ≡ broad′) × (cells ≡ cells′))
 lane-pinned p q =
-    let (same, one) = agreed (p .answered) (q .answered) (p .done) (q .done) lane-left-pinned in (
+    let (same, one) = agreed p q lane-left-pinned in (
       same,
       settled same (λ z. p .refused z .0) (λ z. q .refused z .0) (λ z. one z .2),
       settled same (λ z. p .refused z .1) (λ z. q .refused z .1) (λ z. one z .3),
@@ -167,7 +172,7 @@ lane-pinned p q =
 -- the opening answers one number, and where it is 0 two whole numbers
 pub opening-pinned : {s : Setting} {n n′ a a′ b b′ : ℕ} → OpeningCall s n a b → OpeningCall s n′ a′ b′
     → (n ≡ n′) × (n ≡ 0 → (a ≡ a′) × (b ≡ b′))
-opening-pinned p q = agreed (p .answered) (q .answered) (p .done) (q .done) opened-unique
+opening-pinned p q = agreed p q opened-unique
 
 -- over slices of one length an accepted clear map call leaves the bytes in one way
 clear-left-pinned : {s : Setting} {squares clear exit exit′ : List ℕ}
@@ -181,14 +186,14 @@ clear-left-pinned {squares = squares} {exit = exit} {exit′ = exit′} p q long
 pub clear-pinned : {s : Setting} {squares clear exit exit′ : List ℕ} {n n′ : ℕ}
     → ClearCall s squares clear n exit → ClearCall s squares clear n′ exit′ → (n ≡ n′) × (exit ≡ exit′)
 clear-pinned {s} {squares} {clear} p q =
-    let (same, one) = agreed (p .answered) (q .answered) (p .done) (q .done) clear-left-pinned in
+    let (same, one) = agreed p q clear-left-pinned in
     let accepted = clear-accepted s (length squares) (length clear) in
     (same, settled same (p .refused) (q .refused) (λ z. one z (accepted (sym (p .answered) ∙ z) .slices .as-long)))
 
 -- the changeover's entry answers one number, and where it is 0 one whole number
 pub changeover-pinned : {i u a b n n′ : ℕ} {p p′ : ℤ} → ChangeoverCall i u a b n p → ChangeoverCall i u a b n′ p′
     → (n ≡ n′) × (n ≡ 0 → p ≡ p′)
-changeover-pinned c e = agreed (c .answered) (e .answered) (c .done) (e .done) changeover-unique
+changeover-pinned c e = agreed c e changeover-unique
 
 -- a bench file has one number of bores, one farthest word and one cell of it
 read-pinned : {bytes : List ℕ} {sites sites′ farthest farthest′ cell-number cell-number′ : ℕ}
@@ -202,7 +207,7 @@ read-pinned p q =
 pub bench-pinned : {bytes : List ℕ} {n n′ sites sites′ farthest farthest′ cell-number cell-number′ : ℕ}
     → BenchCall bytes n sites farthest cell-number → BenchCall bytes n′ sites′ farthest′ cell-number′
     → (n ≡ n′) × (n ≡ 0 → (sites ≡ sites′) × (farthest ≡ farthest′) × (cell-number ≡ cell-number′))
-bench-pinned p q = agreed (p .answered) (q .answered) (p .done) (q .done) read-pinned
+bench-pinned p q = agreed p q read-pinned
 
 -- the opening has one answer
 pub opening-answer-pinned : {s : Setting} (r r′ : OpeningAnswer)

@@ -1,6 +1,6 @@
--- What each entry answers and leaves: one record an entry, over numbers and lists, which the entry's contract and its C
--- twin's both cite. "A refusal is its number alone; every lent word keeps its value." The laws of `proofs/Pinned.antt`
--- say that one input allows one answer and one content of each lent list. Assumes nothing.
+-- What each entry answers and leaves, over numbers and lists: one `Call` an entry, which the entry's contract and its C
+-- twin's both cite. The laws of `proofs/Pinned.antt` say that one input allows one answer and one content of each lent
+-- list. Assumes nothing.
 use mathlib.Core.Path.{_≡_}
 use mathlib.Core.Logic.{_≢_}
 use mathlib.Core.List.{List}
@@ -16,7 +16,19 @@ use Rattle.rules.specs.Changeover.{Changeover}
 use Rattle.rules.specs.Knob.{Good, pitch-word, radius-word, clear-byte}
 use Rattle.rules.specs.Lane.{Best, width}
 use Rattle.rules.specs.BenchFile.{bored-by, bores, Farthest, text}
-use Rattle.rules.specs.Refusals.{answer, scratch-words, picture-rows, cost-rows, lane-rows, clear-rows, opening-rows, changeover-rows, file-rows}
+use Rattle.rules.specs.Refusals.{Row, answer, scratch-words, picture-rows, cost-rows, lane-rows, clear-rows, opening-rows, changeover-rows, file-rows}
+
+-- a call of an entry: its number is that of the first of the entry's rows that holds, 0 for none. "A refusal is its number
+-- alone; every lent word keeps its value": `Kept` says so of what the call was lent. `Done` is what an accepted call
+-- answers and leaves.
+pub record Call (rows : List Row) (number : ℕ) (Kept Done : Type 0) : Type 0 where
+  pub answered : number ≡ answer rows
+  pub refused : number ≢ 0 → Kept
+  pub done : number ≡ 0 → Done
+
+-- a call that is lent nothing to write
+abbrev pub AnswerOnly : List Row → ℕ → Type 0 → Type 0
+AnswerOnly rows number Done = Call rows number (Unit {0}) Done
 
 -- the three buffers that a map call is lent
 pub record Buffers : Type 0 where
@@ -54,18 +66,17 @@ PictureLeft w h kind d1 d2 picture before after =
     MapLeft w h (MapWord kind d1 d2 w h picture) (SiteWord kind d1 d2 w h picture) before after
 
 -- the picture entry
-pub record PictureCall (w h kind d1 d2 : ℕ) (picture : List ℕ) (before : Buffers) (number : ℕ) (after : Buffers) : Type 0 where
-  pub answered : number
-      ≡ answer (picture-rows w h kind d1 d2 picture (length (before .distances)) (length (before .sites)) (length (before .scratch)))
-  pub refused : number ≢ 0 → after ≡ before
-  pub done : number ≡ 0 → PictureLeft w h kind d1 d2 picture before after
+abbrev pub PictureCall : ℕ → ℕ → ℕ → ℕ → ℕ → List ℕ → Buffers → ℕ → Buffers → Type 0
+PictureCall w h kind d1 d2 picture before number after =
+    Call
+    (picture-rows w h kind d1 d2 picture (length (before .distances)) (length (before .sites)) (length (before .scratch)))
+    number (after ≡ before) (PictureLeft w h kind d1 d2 picture before after)
 
 -- the cost entry
-pub record CostCall (w h kind : ℕ) (costs : List ℕ) (before : Buffers) (number : ℕ) (after : Buffers) : Type 0 where
-  pub answered : number
-      ≡ answer (cost-rows w h kind costs (length (before .distances)) (length (before .sites)) (length (before .scratch)))
-  pub refused : number ≢ 0 → after ≡ before
-  pub done : number ≡ 0 → MapLeft w h (CostMapWord kind w h costs) (CostMapSite kind w h costs) before after
+abbrev pub CostCall : ℕ → ℕ → ℕ → List ℕ → Buffers → ℕ → Buffers → Type 0
+CostCall w h kind costs before number after =
+    Call (cost-rows w h kind costs (length (before .distances)) (length (before .sites)) (length (before .scratch)))
+    number (after ≡ before) (MapLeft w h (CostMapWord kind w h costs) (CostMapSite kind w h costs) before after)
 
 -- "The first L path words hold it, the rest up to W·H the mark, path words beyond stay, and the other buffers are as
 -- after a kind 0 map call.": `word` is demand 2's least distance of each cell, and no stored word
@@ -80,11 +91,11 @@ pub record LaneLeft (w h : ℕ) (picture : List ℕ) (from to : ℕ) (before : B
   pub map-left : PictureLeft w h 0 0 0 picture before after
 
 -- the lane entry
-pub record LaneCall (w h : ℕ) (picture : List ℕ) (from to : ℕ) (before : Buffers) (path : List ℕ) (number broad cells : ℕ) (after : Buffers) (path′ : List ℕ) : Type 0 where
-  pub answered : number
-      ≡ answer (lane-rows w h picture from to (length (before .distances)) (length (before .sites)) (length (before .scratch)) (length path))
-  pub refused : number ≢ 0 → (after ≡ before) × (path′ ≡ path)
-  pub done : number ≡ 0 → LaneLeft w h picture from to before path broad cells after path′
+abbrev pub LaneCall : ℕ → ℕ → List ℕ → ℕ → ℕ → Buffers → List ℕ → ℕ → ℕ → ℕ → Buffers → List ℕ → Type 0
+LaneCall w h picture from to before path number broad cells after path′ =
+    Call
+    (lane-rows w h picture from to (length (before .distances)) (length (before .sites)) (length (before .scratch)) (length path))
+    number ((after ≡ before) × (path′ ≡ path)) (LaneLeft w h picture from to before path broad cells after path′)
 
 -- a setting opened to the whole numbers a and b
 pub record Opened (s : Setting) (a b : ℕ) : Type 0 where
@@ -92,9 +103,8 @@ pub record Opened (s : Setting) (a b : ℕ) : Type 0 where
   pub radius-good : Good (radius-word s) b
 
 -- the opening entry
-pub record OpeningCall (s : Setting) (number a b : ℕ) : Type 0 where
-  pub answered : number ≡ answer (opening-rows s)
-  pub done : number ≡ 0 → Opened s a b
+abbrev pub OpeningCall : Setting → ℕ → ℕ → ℕ → Type 0
+OpeningCall s number a b = AnswerOnly (opening-rows s) number (Opened s a b)
 
 -- "an equally long byte slice, whose every byte becomes 1 where d·a² ≥ b², else 0"
 pub record ClearLeft (s : Setting) (squares clear clear′ : List ℕ) : Type 0 where
@@ -105,15 +115,13 @@ pub record ClearLeft (s : Setting) (squares clear clear′ : List ℕ) : Type 0 
   pub as-long : length clear′ ≡ length clear
 
 -- the clear map entry
-pub record ClearCall (s : Setting) (squares clear : List ℕ) (number : ℕ) (clear′ : List ℕ) : Type 0 where
-  pub answered : number ≡ answer (clear-rows s (length squares) (length clear))
-  pub refused : number ≢ 0 → clear′ ≡ clear
-  pub done : number ≡ 0 → ClearLeft s squares clear clear′
+abbrev pub ClearCall : Setting → List ℕ → List ℕ → ℕ → List ℕ → Type 0
+ClearCall s squares clear number clear′ =
+    Call (clear-rows s (length squares) (length clear)) number (clear′ ≡ clear) (ClearLeft s squares clear clear′)
 
 -- the changeover entry
-pub record ChangeoverCall (i u a b number : ℕ) (p : ℤ) : Type 0 where
-  pub answered : number ≡ answer (changeover-rows i u a b)
-  pub done : number ≡ 0 → Changeover i u a b p
+abbrev pub ChangeoverCall : ℕ → ℕ → ℕ → ℕ → ℕ → ℤ → Type 0
+ChangeoverCall i u a b number p = AnswerOnly (changeover-rows i u a b) number (Changeover i u a b p)
 
 -- the three numbers of a bench file
 pub record BenchRead (bytes : List ℕ) (sites farthest number : ℕ) : Type 0 where
@@ -121,9 +129,9 @@ pub record BenchRead (bytes : List ℕ) (sites farthest number : ℕ) : Type 0 w
   pub farthest-is : Farthest (bored-by bytes) farthest number
 
 -- the bench file's function
-pub record BenchCall (bytes : List ℕ) (number sites farthest cell-number : ℕ) : Type 0 where
-  pub answered : number ≡ answer (file-rows bytes)
-  pub done : number ≡ 0 → BenchRead bytes sites farthest cell-number
+abbrev pub BenchCall : List ℕ → ℕ → ℕ → ℕ → ℕ → Type 0
+BenchCall bytes number sites farthest cell-number =
+    AnswerOnly (file-rows bytes) number (BenchRead bytes sites farthest cell-number)
 
 -- what the bench program prints for a file: the text of the answer
 pub record BenchPrints (bytes output : List ℕ) : Type 0 where

@@ -1,22 +1,22 @@
 -- `costs::cost_map` meets its contract: a call that is refused leaves everything, and past the tests the map is made.
 -- Assumes nothing.
-use mathlib.Core.Path.{sym, _∙_}
+use mathlib.Core.Path.{refl, sym, _∙_}
 use Rattle.rules.proofs.Refusals.{cost-accepted}
-use Rattle.costs.proofs.Entry.{refused-call, made-call}
+use Rattle.rules.proofs.Calls.{refused-call, made-call}
 use borrow.Author.Needs.{needs}
 use Rattle.costs.proofs.cost_map.Statement.{statement}
 use Rattle.costs.proofs.cost_map.Tie as tie
 
-refusal-requires : tie.Need-refusal-requires
-refusal-requires c κs = search needs
+of-costs-requires : tie.Need-of-costs-requires
+of-costs-requires c κs = search needs
 
 returns : tie.Need-returns
-returns c = refused-call (c .before .refusal .ensures) (c .if1 .taken)
+returns c = refused-call (c .before .of-costs .ensures) (c .if1 .taken) refl
 
 make-requires : tie.Need-make-requires
 make-requires c κs =
     let t = c .before .before .before in
-    cost-accepted _ _ _ _ _ _ _ (sym (t .before .refusal .ensures) ∙ t .if1 .left)
+    cost-accepted _ _ _ _ _ _ _ (sym (t .before .of-costs .ensures) ∙ t .if1 .left)
 
 same-length : tie.Need-same-length
 same-length c = search needs
@@ -31,13 +31,13 @@ returns-2 : tie.Need-returns-2
 returns-2 c =
     let m = c .before .before .before .before .before .before in
     let t = m .before .before .before .before in
-    made-call (sym (t .if1 .left) ∙ t .before .refusal .ensures) (m .make .ensures)
+    made-call (sym (t .if1 .left) ∙ t .before .of-costs .ensures) (m .make .ensures)
 
 pub cost-map-spec : {M : Type 1} → statement M
 cost-map-spec =
     tie.close
     (tie.spec
-    refusal-requires
+    of-costs-requires
     returns
     make-requires
     same-length

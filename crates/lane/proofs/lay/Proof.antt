@@ -7,8 +7,8 @@ use lib.ListN.{length}
 use lib.Seq.{length-take-le}
 use Rattle.rules.specs.Accepted.{LaneAccepted}
 use Rattle.rules.specs.Calls.{buffers, PictureLeft}
+use Rattle.rules.proofs.Board.{cells-few}
 use Rattle.rules.proofs.Refusals.{lane-accepted}
-use Rattle.maps.proofs.Rows.{cells-few}
 use Rattle.lane.proofs.Calling.{map-answers, words-room, scratch-room, askable, lane-left}
 use borrow.Author.Needs.{needs}
 use Rattle.lane.proofs.lay.Statement.{statement}

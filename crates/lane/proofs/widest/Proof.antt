@@ -1,21 +1,21 @@
 -- `lane::widest` meets its contract: a call that is refused leaves everything, and past the tests the lane is laid. Assumes
 -- nothing.
-use mathlib.Core.Path.{_∙_, sym}
-use Rattle.lane.proofs.Calling.{refused-call, found-call}
+use mathlib.Core.Path.{refl, _∙_, sym}
+use Rattle.rules.proofs.Calls.{refused-call, made-call}
 use borrow.Author.Needs.{needs}
 use Rattle.lane.proofs.widest.Statement.{statement}
 use Rattle.lane.proofs.widest.Tie as tie
 
-refusal-requires : tie.Need-refusal-requires
-refusal-requires c κs = search needs
+of-lane-requires : tie.Need-of-lane-requires
+of-lane-requires c κs = search needs
 
 returns : tie.Need-returns
-returns c = refused-call _ _ _ _ _ (c .before .refusal .ensures) (c .if1 .taken)
+returns c = refused-call (c .before .of-lane .ensures) (c .if1 .taken) (refl, refl)
 
 lay-requires : tie.Need-lay-requires
 lay-requires c κs =
     let t = c .before .before .before .before in
-    sym (t .before .refusal .ensures) ∙ t .if1 .left
+    sym (t .before .of-lane .ensures) ∙ t .if1 .left
 
 same-length : tie.Need-same-length
 same-length c = search needs
@@ -33,13 +33,13 @@ returns-2 : tie.Need-returns-2
 returns-2 c =
     let l = c .before .before .before .before .before .before .before .before in
     let t = l .before .before .before .before .before in
-    found-call _ _ _ _ _ (sym (t .if1 .left) ∙ t .before .refusal .ensures) (l .lay .ensures)
+    made-call (sym (t .if1 .left) ∙ t .before .of-lane .ensures) (l .lay .ensures)
 
 pub widest-spec : {M : Type 1} → statement M
 widest-spec =
     tie.close
     (tie.spec
-    refusal-requires
+    of-lane-requires
     returns
     lay-requires
     same-length

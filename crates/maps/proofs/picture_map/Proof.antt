@@ -1,22 +1,22 @@
 -- `maps::picture_map` meets its contract: a call that is refused leaves everything, and past the tests the map is made.
 -- Assumes nothing.
-use mathlib.Core.Path.{sym, _∙_}
+use mathlib.Core.Path.{refl, sym, _∙_}
 use Rattle.rules.proofs.Refusals.{picture-accepted}
-use Rattle.maps.proofs.Answers.{refused-call, made-call}
+use Rattle.rules.proofs.Calls.{refused-call, made-call}
 use borrow.Author.Needs.{needs}
 use Rattle.maps.proofs.picture_map.Statement.{statement}
 use Rattle.maps.proofs.picture_map.Tie as tie
 
-refusal-requires : tie.Need-refusal-requires
-refusal-requires c κs = search needs
+of-picture-requires : tie.Need-of-picture-requires
+of-picture-requires c κs = search needs
 
 returns : tie.Need-returns
-returns c = refused-call (c .before .refusal .ensures) (c .if1 .taken)
+returns c = refused-call (c .before .of-picture .ensures) (c .if1 .taken) refl
 
 make-requires : tie.Need-make-requires
 make-requires c κs =
     let t = c .before .before .before in
-    picture-accepted _ _ _ _ _ _ _ _ _ (sym (t .before .refusal .ensures) ∙ t .if1 .left)
+    picture-accepted _ _ _ _ _ _ _ _ _ (sym (t .before .of-picture .ensures) ∙ t .if1 .left)
 
 same-length : tie.Need-same-length
 same-length c = search needs
@@ -31,13 +31,13 @@ returns-2 : tie.Need-returns-2
 returns-2 c =
     let m = c .before .before .before .before .before .before in
     let t = m .before .before .before .before in
-    made-call (sym (t .if1 .left) ∙ t .before .refusal .ensures) (m .make .ensures)
+    made-call (sym (t .if1 .left) ∙ t .before .of-picture .ensures) (m .make .ensures)
 
 pub picture-map-spec : {M : Type 1} → statement M
 picture-map-spec =
     tie.close
     (tie.spec
-    refusal-requires
+    of-picture-requires
     returns
     make-requires
     same-length

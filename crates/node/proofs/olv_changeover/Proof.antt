@@ -1,10 +1,12 @@
 -- `node::olv_changeover` meets its contract: the entry's record for each of its answer's cases. Assumes nothing.
 use mathlib.Core.Path.{subst}
+use native.Mathlib.Omega.{arith}
 use mir.Syntax.{w32}
 use mir.ValLaws.{toZ-ofZ}
 use Rattle.rules.specs.Answers.{changeover-number, changeover-at}
 use Rattle.rules.specs.Calls.{ChangeoverCall}
-use Rattle.node.proofs.Outs.{same, told, changeover-of-any}
+use Rattle.rules.proofs.Calls.{of-any}
+use Rattle.node.proofs.Outs.{same, told}
 use borrow.Author.Needs.{needs}
 use Rattle.node.proofs.olv_changeover.Statement.{statement}
 use Rattle.node.proofs.olv_changeover.Tie as tie
@@ -20,7 +22,7 @@ enum-told c = search needs
 
 returns : tie.Need-returns
 returns c = let a = c .before .before .before .args in
-    (changeover-of-any _ (subst (λ r. ChangeoverCall (a .i) (a .u) (a .a) (a .b) (changeover-number r) (changeover-at r)) (c .enum-told .given .1) (c .before .before .changeover .ensures)), same 9 _)
+    (of-any (λ z _. omega arith) (subst (λ r. ChangeoverCall (a .i) (a .u) (a .a) (a .b) (changeover-number r) (changeover-at r)) (c .enum-told .given .1) (c .before .before .changeover .ensures)), same 9 _)
 
 returns-2 : tie.Need-returns-2
 returns-2 c = let a = c .before .before .before .before .args in

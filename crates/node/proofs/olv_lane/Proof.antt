@@ -1,5 +1,6 @@
 -- `node::olv_lane` meets its contract: the entry's record for each of its answer's cases. Assumes nothing.
-use Rattle.node.proofs.Outs.{same, told, lane-as, lane-of-any}
+use Rattle.rules.proofs.Calls.{of-any}
+use Rattle.node.proofs.Outs.{same, told, lane-as, no-lane}
 use borrow.Author.Needs.{needs}
 use Rattle.node.proofs.olv_lane.Statement.{statement}
 use Rattle.node.proofs.olv_lane.Tie as tie
@@ -26,7 +27,7 @@ same-length-4 : tie.Need-same-length-4
 same-length-4 c = search needs
 
 returns : tie.Need-returns
-returns c = (lane-of-any _ _ (lane-as (c .before .number .given .1) (c .before .before .before .before .before .before .before .before .before .before .before .widest .ensures)), same _ _, same _ _)
+returns c = (of-any no-lane (lane-as (c .before .number .given .1) (c .before .before .before .before .before .before .before .before .before .before .before .widest .ensures)), same _ _, same _ _)
 
 same-length-5 : tie.Need-same-length-5
 same-length-5 c = search needs

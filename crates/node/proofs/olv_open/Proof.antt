@@ -1,8 +1,10 @@
 -- `node::olv_open` meets its contract: the entry's record for each of its answer's cases. Assumes nothing.
 use mathlib.Core.Path.{subst}
+use native.Mathlib.Omega.{arith}
 use Rattle.rules.specs.Answers.{opening-number, opening-a, opening-b}
 use Rattle.rules.specs.Calls.{OpeningCall}
-use Rattle.node.proofs.Outs.{same, told, opening-of-any}
+use Rattle.rules.proofs.Calls.{of-any}
+use Rattle.node.proofs.Outs.{same, told}
 use borrow.Author.Needs.{needs}
 use Rattle.node.proofs.olv_open.Statement.{statement}
 use Rattle.node.proofs.olv_open.Tie as tie
@@ -18,7 +20,7 @@ enum-told c = search needs
 
 returns : tie.Need-returns
 returns c = let s = c .before .before .before .args .setting in
-    (opening-of-any _ _ (subst (λ r. OpeningCall s (opening-number r) (opening-a r) (opening-b r)) (c .enum-told .given .1) (c .before .before .open .ensures)), same 8 _, same 8 _)
+    (of-any (λ z _. omega arith) (subst (λ r. OpeningCall s (opening-number r) (opening-a r) (opening-b r)) (c .enum-told .given .1) (c .before .before .open .ensures)), same 8 _, same 8 _)
 
 returns-2 : tie.Need-returns-2
 returns-2 c = let s = c .before .before .before .before .args .setting in

@@ -7,10 +7,11 @@ use mathlib.Core.List.{List}
 use lib.ListN.{length, take, drop}
 use lib.Seq.{length-take-le, length-front}
 use Rattle.rules.specs.Limits.{side-limit}
+use Rattle.rules.proofs.Board.{cells-few}
 use Rattle.rules.proofs.Parts.{part-length}
 use Rattle.rows.specs.Row.{Believed, RowMade}
 use Rattle.maps.specs.Rows.{RowsMade}
-use Rattle.maps.proofs.Rows.{rows-none, believed-at, rows-more-at, cells-few, row-in-cells}
+use Rattle.maps.proofs.Rows.{rows-none, believed-at, rows-more-at, row-in-cells}
 use Rattle.maps.proofs.lines.all_rows.Statement.{statement}
 use Rattle.maps.proofs.lines.all_rows.Tie as tie
 

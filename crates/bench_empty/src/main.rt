@@ -1,4 +1,0 @@
-// The bench program on an empty file.
-fn main() {
-    bench_run::run();
-}

@@ -21,6 +21,7 @@ use Rattle.rules.proofs.Board.{cell-in, cell-of, column-below, row-below}
 use Rattle.rules.proofs.TieRule.{least-unique}
 use Rattle.rules.proofs.BenchFile.{bored-length, bored-bytes}
 use Rattle.rules.proofs.Refusals.{sides-good, kind-good, weights-good, buffers-good, bytes-good}
+use Rattle.rules.proofs.Calls.{refused-call, made-call}
 use Rattle.bench_file.specs.Boring.{BoredBy}
 use Rattle.bench_file.specs.Reading.{Passed, Peak}
 use Rattle.bench_file.proofs.Counting.{bores-none}
@@ -36,18 +37,14 @@ passing true x e same = absurd (true≢false e)
 passing false x e same = same
 
 module _ (bytes : List ℕ) where
-  -- a refusal is its number alone
-  refused-call : {n : ℕ} → n ≡ answer (file-rows bytes) → (n ≡ 0 → ⊥) → BenchCall bytes n 0 0 0
-  refused-call is some = record { answered = is; done = λ z. absurd (some z) }
-
   -- 10 holds
   pub ten : bad-file (length bytes) ≡ true → BenchCall bytes 10 0 0 0
-  ten e = refused-call (holding (bad-file (length bytes)) _ _ e) (λ z. omega arith)
+  ten e = refused-call (holding (bad-file (length bytes)) _ _ e) (λ z. omega arith) tt
 
   -- 10 does not hold, and 11 does
   pub eleven : bad-file (length bytes) ≡ false → outside bytes ≡ true → BenchCall bytes 11 0 0 0
   eleven p e =
-      refused-call (passing (bad-file (length bytes)) _ p (holding (outside bytes) _ _ e)) (λ z. omega arith)
+      refused-call (passing (bad-file (length bytes)) _ p (holding (outside bytes) _ _ e)) (λ z. omega arith) tt
 
   module _ (P : Passed bytes) where
     -- past 10 and 11 the answer is up to 6
@@ -57,19 +54,17 @@ module _ (bytes : List ℕ) where
     -- 6 holds
     pub six : {picture : List ℕ} → picture ≡ bored-by bytes → no-bore picture ≡ true → BenchCall bytes 6 0 0 0
     six bored e =
-        refused-call (past (holding (no-bore (bored-by bytes)) _ _ (sym (ap no-bore bored) ∙ e))) (λ z. omega arith)
+        refused-call (past (holding (no-bore (bored-by bytes)) _ _ (sym (ap no-bore bored) ∙ e))) (λ z. omega arith) tt
 
     -- no test holds
     pub read-call : {picture : List ℕ} {sites farthest number : ℕ} → picture ≡ bored-by bytes → no-bore picture ≡ false
         → sites ≡ bores picture → Farthest picture farthest number → BenchCall bytes 0 sites farthest number
     read-call {picture} {sites} {farthest} {number} bored e count far =
-        record {
-          answered = past (passing (no-bore (bored-by bytes)) _ (sym (ap no-bore bored) ∙ e) refl);
-          done = λ _. record {
-            sites-is = count ∙ ap bores bored;
-            farthest-is = subst (λ p. Farthest p farthest number) bored far;
-          };
-        }
+        made-call (past (passing (no-bore (bored-by bytes)) _ (sym (ap no-bore bored) ∙ e) refl))
+        (record {
+          sites-is = count ∙ ap bores bored;
+          farthest-is = subst (λ p. Farthest p farthest number) bored far;
+        })
 
   -- what is bored into a sound board is the file's picture
   pub picture-of : {before after : List ℕ} {fresh : ℕ} → before ≡ replicate (bench-side * bench-side) 0

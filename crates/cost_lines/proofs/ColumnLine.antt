@@ -22,9 +22,9 @@ use Rattle.rules.proofs.Board.{cell-in}
 use Rattle.rules.proofs.Measures.{lawful}
 use Rattle.rules.proofs.Refusals.{getD-within}
 use Rattle.rules.proofs.Parts.{put-before}
-use Rattle.envelope.specs.declared.Gauge.{Gauge}
-use Rattle.envelope.specs.Line.{Known, Line, Wins, height-at}
-use Rattle.envelope.proofs.Places.{apart-below}
+use Rattle.gauge.specs.declared.Gauge.{Gauge}
+use Rattle.gauge.specs.Line.{Known, Line, Wins, height-at}
+use Rattle.gauge.proofs.Places.{apart-below}
 use Rattle.rows.proofs.RowLine.{combine-small}
 use Rattle.cost_lines.specs.Lines.{Gathered, winner-word, Scattered}
 use Rattle.cost_lines.specs.Left.{Passed, ColumnLeft, ColumnsLeft, ColumnMore}

@@ -21,9 +21,9 @@ use Rattle.rules.proofs.Board.{cell-in}
 use Rattle.rules.proofs.Columns.{cost-step}
 use Rattle.rules.proofs.Measures.{lawful, additive}
 use Rattle.rules.proofs.Parts.{part-length, put-before, put-inside}
-use Rattle.envelope.specs.declared.Gauge.{Gauge}
-use Rattle.envelope.specs.Line.{Wins, height-at}
-use Rattle.envelope.proofs.Places.{apart-below}
+use Rattle.gauge.specs.declared.Gauge.{Gauge}
+use Rattle.gauge.specs.Line.{Wins, height-at}
+use Rattle.gauge.proofs.Places.{apart-below}
 use Rattle.rows.specs.Row.{Believed, Written}
 use Rattle.rows.proofs.RowLine.{lift-small, Valued, words-part, words-length, words-at, words-some, row-of}
 use Rattle.cost_lines.specs.Lines.{Priced, Ranked, column-value}

@@ -1,6 +1,6 @@
 // The columns of a cost picture: the engine along each, from the costs to the column words.
-use envelope::Gauge;
-use envelope::engine::winners_of;
+use envelope::winners_of;
+use gauge::Gauge;
 use rules::LINE;
 use rules::MARK;
 use rules::wide;

@@ -1,6 +1,6 @@
 // The lines of a cost picture: the engine along each column, and then along each row.
 use column::all_columns;
-use envelope::Gauge;
+use gauge::Gauge;
 use row::all_rows;
 ghost use Prim.Native.Nat.{_*_};
 ghost use mathlib.Core.Path.{_≡_};

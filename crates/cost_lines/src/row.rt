@@ -1,9 +1,9 @@
 // The rows of a cost picture: from the column words to the map. The fill is the costs' own; the engine and the
 // write-out are those of pictures.
-use envelope::Gauge;
-use envelope::engine::winners_of;
-use envelope::leaves::apart;
-use envelope::leaves::lifted;
+use envelope::winners_of;
+use gauge::Gauge;
+use gauge::apart;
+use gauge::lifted;
 use rows::write_out;
 use rules::LINE;
 use rules::MARK;
@@ -13,7 +13,7 @@ ghost use mathlib.Core.Path.{_≡_};
 ghost use lib.ListN.{length, getD};
 ghost use Rattle.rules.specs.Limits.{side-limit};
 ghost use Rattle.rules.specs.Refusals.{scratch-words};
-ghost use Rattle.envelope.specs.Line.{Known};
+ghost use Rattle.gauge.specs.Line.{Known};
 ghost use Rattle.cost_lines.specs.Lines.{Priced, column-value, Ranked};
 ghost use Rattle.cost_lines.specs.Left.{Passed, ColumnsLeft, RowsLeft, RowMore};
 

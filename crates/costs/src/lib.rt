@@ -2,7 +2,7 @@
 use cost_lines::steps;
 use entry::scratch_words;
 use entry::set_front;
-use envelope::Gauge;
+use gauge::Gauge;
 use refusals::prices::of_costs;
 use rules::SIDE;
 ghost use lib.ListN.{length};

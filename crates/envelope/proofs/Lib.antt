@@ -1,6 +1,4 @@
 pub mod Turns
-pub mod Places
 pub mod Taking
 pub mod Stores
 pub mod Spreading
-pub mod Answers

@@ -10,7 +10,7 @@ use native.Mathlib.Decide.{decLt, ℕ-discrete}
 use native.Mathlib.Omega.{arith}
 use lib.ListN.{length, getD, set, length-set}
 use lib.Seq.{getD-set-same, getD-set-other}
-use Rattle.envelope.specs.Line.{Wins}
+use Rattle.gauge.specs.Line.{Wins}
 use Rattle.envelope.specs.Stretches.{starts, holders, Within, Stretches, Spreads, Spread}
 use Rattle.envelope.proofs.Turns.{rise, stretch-of}
 

@@ -7,9 +7,10 @@ use native.Mathlib.Omega.{arith}
 use lib.ListN.{length, getD, set, length-set}
 use lib.Seq.{getD-set-same, getD-set-other}
 use Rattle.rules.proofs.Measures.{lawful}
-use Rattle.envelope.specs.declared.Gauge.{Gauge}
-use Rattle.envelope.specs.Line.{Known, height-at}
-use Rattle.envelope.specs.Stretches.{starts, holders, Kept, Place, Begins, Turn}
+use Rattle.gauge.specs.declared.Gauge.{Gauge}
+use Rattle.gauge.specs.Line.{Known, height-at}
+use Rattle.gauge.specs.Places.{Place}
+use Rattle.envelope.specs.Stretches.{starts, holders, Kept, Begins, Turn}
 
 -- for a gauge that the engine knows, the places where a column holds are an initial stretch
 pub initial : (g : Gauge) → Known g → (values : List ℕ) (u i x x′ : ℕ) → i < u → x′ ≤ x

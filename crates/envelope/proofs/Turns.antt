@@ -10,7 +10,7 @@ use native.Mathlib.Nat.{le-refl, le-of-lt, le-trans, lt-of-le-of-lt, lt-of-lt-of
 use native.Mathlib.Numerals.{add-one}
 use native.Mathlib.Decide.{decLe, decLt}
 use native.Mathlib.Omega.{arith}
-use Rattle.envelope.specs.Line.{Wins}
+use Rattle.gauge.specs.Line.{Wins}
 use Rattle.envelope.specs.Stretches.{Within, Stretches, Kept, Against, Turn}
 
 -- a number below u + 1 is u or below u

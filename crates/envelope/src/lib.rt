@@ -1,57 +1,135 @@
-// The engine along a line, and the changeover. A line is a list of values, one a column; each column has a curve, and at
-// each place the engine names the column whose curve is lowest, the least column on a tie (document 002, scans 3 and 4).
-use crossing::core;
-use rules::COLUMN;
-use rules::ChangeoverAnswer;
-use rules::VALUE;
-ghost use Prim.Native.Nat.{_*_, _<_};
+// The engine along a line. A line is a list of values, one a column; each column has a curve, and at each place the engine
+// names the column whose curve is lowest, the least column on a tie (document 002, scans 3 and 4). The work words hold the
+// stretches: the starts in the first n, the holders in the n after them, n being the length of the line.
+use gauge::Gauge;
+use gauge::height;
+use gauge::place;
+use rules::wide;
+ghost use Prim.Native.Nat.{ℕ, _+_, _≤_, _<_};
 ghost use mathlib.Core.Path.{_≡_};
-ghost use Rattle.rules.specs.Limits.{side-limit};
-ghost use Rattle.rules.specs.Answers.{changeover-number, changeover-at};
-ghost use Rattle.rules.specs.Calls.{ChangeoverCall};
+ghost use lib.Dec.{leb};
+ghost use lib.ListN.{length, getD};
+ghost use Rattle.gauge.specs.Line.{Known, Line, Wins, height-at};
+ghost use Rattle.envelope.specs.Stretches.{starts, holders, Room, Stretches, Kept, Against, Begins, Turn, Spreads, Spread};
 
-mod crossing;
-pub mod engine;
-pub mod leaves;
-
-// The measure of a line: kind 0, 1 or 2.
-pub struct Gauge {
-    pub kind: u32,
+// What a turn leaves: how many stretches were kept when its column came, and how many there are now.
+pub struct Turned {
+    pub kept: usize,
+    pub count: usize,
 }
 
-// The square of a whole offset. Every square that the engine and the changeover need comes from here.
-fn square(k: usize) -> u64
-    requires { ⌜ k < side-limit ⌝ }
-    ensures { λ r. ⌜ (r ≡ k * k) × (r < side-limit * side-limit) ⌝ }
+// Whether stretch k stays when column u comes: u is not strictly lower at its start.
+fn stays(g: Gauge, values: &[u64], work: &[u32], k: usize, u: usize) -> bool
+    requires { ⌜ Known g × Line (now values) × Room (now values) (now work) × (u < length (now values)) × (k < length (now values))
+        × (starts (now work) k < length (now values)) × (holders (length (now values)) (now work) k < length (now values)) ⌝ }
+    ensures { λ r. ⌜ r ≡ leb
+        (height-at g (now (values .entry)) (holders (length (now (values .entry))) (now (work .entry)) k) (starts (now (work .entry)) k))
+        (height-at g (now (values .entry)) u (starts (now (work .entry)) k)) ⌝ }
 {
-    let wide = k as u64;
-    wide * wide
+    let n = values.len();
+    let start = wide(work[k]);
+    let holder = wide(work[n + k]);
+    height(g, values, holder, start) <= height(g, values, u, start)
 }
 
-// The changeover of columns i < u that hold the values a and b: the greatest whole p with (p−i)² + a ≤ (p−u)² + b. Below
-// zero it is an answer like any other, rounded down and so away from zero.
-pub fn changeover(i: u32, u: u32, a: u32, b: u32) -> ChangeoverAnswer
-    ensures { λ r. ⌜ ChangeoverCall i u a b (changeover-number r) (changeover-at r) ⌝ }
+// How many of the m stretches are kept when column u comes: those that do not stay are taken off from the right.
+fn keep(g: Gauge, values: &[u64], work: &[u32], m: usize, u: usize) -> usize
+    requires { ⌜ Known g × Line (now values) × Room (now values) (now work) × (u < length (now values))
+        × Stretches (height-at g (now values)) (length (now values)) u m (starts (now work)) (holders (length (now values)) (now work)) ⌝ }
+    ensures { λ r. ⌜ Kept (height-at g (now (values .entry))) u m (starts (now (work .entry)))
+        (holders (length (now (values .entry))) (now (work .entry))) r ⌝ }
 {
-    if u <= i {
-        return ChangeoverAnswer::Refused;
+    let mut kept = m;
+    while 0 < kept {
+        let k = kept - 1;
+        if stays(g, values, work, k, u) {
+            return kept;
+        }
+        kept = k;
     }
-    if COLUMN < u {
-        return ChangeoverAnswer::Refused;
+    0
+}
+
+// Where column u begins: at the first place if no stretch is kept, else where the last one kept stops holding.
+fn begin(g: Gauge, values: &[u64], work: &[u32], kept: usize, u: usize) -> usize
+    requires { ⌜ Known g × Line (now values) × Room (now values) (now work) × (u < length (now values)) × (kept ≤ length (now values))
+        × Against (height-at g (now values)) u (holders (length (now values)) (now work)) kept ⌝ }
+    ensures { λ r. ⌜ Begins (height-at g (now (values .entry))) (length (now (values .entry))) u
+        (holders (length (now (values .entry))) (now (work .entry))) kept r ⌝ }
+{
+    if kept == 0 {
+        return 0;
     }
-    if VALUE < a {
-        return ChangeoverAnswer::Refused;
+    let n = values.len();
+    let holder = wide(work[n + (kept - 1)]);
+    place(g, values, holder, u)
+}
+
+// One turn of scan 3, with column u.
+fn turn(g: Gauge, values: &[u64], work: &mut [u32], m: usize, u: usize) -> Turned
+    requires { ⌜ Known g × Line (now values) × Room (now values) (now work) × (u < length (now values))
+        × Stretches (height-at g (now values)) (length (now values)) u m (starts (now work)) (holders (length (now values)) (now work)) ⌝ }
+    ensures { λ r. ⌜ Turn (height-at g (now (values .entry))) (length (now (values .entry))) u m
+        (starts (now (work .entry))) (holders (length (now (values .entry))) (now (work .entry)))
+        (r .kept) (r .count)
+        (starts (now (work .exit))) (holders (length (now (values .entry))) (now (work .exit))) ⌝ }
+{
+    let n = values.len();
+    let kept = keep(g, values, work, m, u);
+    let start = begin(g, values, work, kept, u);
+    if n <= start {
+        return Turned { kept, count: kept };
     }
-    if VALUE < b {
-        return ChangeoverAnswer::Refused;
+    work[kept] = start as u32;
+    work[n + kept] = u as u32;
+    Turned {
+        kept,
+        count: kept + 1,
     }
-    let top = square(u as usize) + b as u64;
-    let low = square(i as usize) + a as u64;
-    if low <= top {
-        let p = core(i as usize, u as usize, a as u64, b as u64);
-        return ChangeoverAnswer::At(p as i32);
+}
+
+// Scan 3: the stretches of the whole line. Answers how many there are.
+fn build(g: Gauge, values: &[u64], work: &mut [u32]) -> usize
+    requires { ⌜ Known g × Line (now values) × Room (now values) (now work) ⌝ }
+    ensures { λ r. ⌜ Stretches (height-at g (now (values .entry))) (length (now (values .entry))) (length (now (values .entry))) r
+        (starts (now (work .exit))) (holders (length (now (values .entry))) (now (work .exit))) ⌝ }
+{
+    let n = values.len();
+    work[0] = 0;
+    work[n] = 0;
+    let mut m = 1;
+    let mut u = 1;
+    while u < n {
+        let turned = turn(g, values, work, m, u);
+        m = turned.count;
+        u += 1;
     }
-    let d = 2 * (u - i) as u64;
-    let below = (low - top + d - 1) / d;
-    ChangeoverAnswer::At(0 - below as i32)
+    m
+}
+
+// Scan 4: each place gets the holder of its stretch.
+fn spread(work: &[u32], m: usize, winners: &mut [u32])
+    requires { ⌜ Spreads (now work) m (length (now winners)) ⌝ }
+    ensures { λ _. ⌜ Spread (now (work .entry)) m (length (now (winners .entry))) (now (winners .exit)) ⌝ }
+{
+    let n = winners.len();
+    let mut q = m;
+    let mut x = n;
+    while 0 < x {
+        x -= 1;
+        winners[x] = work[n + (q - 1)];
+        if wide(work[q - 1]) == x {
+            q -= 1;
+        }
+    }
+}
+
+// The engine: at each place of the line the least column whose curve is lowest there.
+pub fn winners_of(g: Gauge, values: &[u64], work: &mut [u32], winners: &mut [u32])
+    requires { ⌜ Known g × Line (now values) × Room (now values) (now work) × (length (now winners) ≡ length (now values)) ⌝ }
+    ensures { λ _. ⌜ ((x : ℕ) → x < length (now (values .entry))
+        → Wins (height-at g (now (values .entry))) (length (now (values .entry))) x (getD (now (winners .exit)) x 0)) ⌝ }
+{
+    let m = build(g, values, work);
+    spread(work, m, winners);
 }

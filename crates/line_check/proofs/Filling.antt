@@ -9,7 +9,7 @@ use native.Mathlib.Omega.{arith}
 use lib.ListN.{length, getD, set, length-set}
 use lib.Seq.{getD-set-same, getD-set-other}
 use Rattle.rules.specs.Limits.{side-limit, line-limit}
-use Rattle.envelope.specs.Line.{Line}
+use Rattle.gauge.specs.Line.{Line}
 
 -- the first i of n values are stored, none above the line limit
 pub record Filled (n : ℕ) (values : List ℕ) (i : ℕ) : Type 0 where

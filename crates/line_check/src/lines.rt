@@ -5,7 +5,7 @@ use rules::SIDE;
 ghost use Prim.Native.Nat.{_^_, _≤_, _<_};
 ghost use lib.ListN.{length};
 ghost use Rattle.rules.specs.Limits.{side-limit, line-limit};
-ghost use Rattle.envelope.specs.Line.{Line};
+ghost use Rattle.gauge.specs.Line.{Line};
 
 // The generator is Park and Miller's: a number is the one before times this factor ..
 const FACTOR: u64 = 48_271;

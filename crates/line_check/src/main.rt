@@ -1,6 +1,6 @@
 // Random lines of kinds 0, 1 and 2 through the engine; each winner is held against a plain look at every column.
-use envelope::Gauge;
-use envelope::engine::winners_of;
+use envelope::winners_of;
+use gauge::Gauge;
 use libc::STDOUT_FILENO;
 use lines::fill;
 use lines::some_length;

@@ -3,7 +3,7 @@ ghost use Prim.Native.Nat.{_*_, _≤_, _<_};
 ghost use mathlib.Core.Path.{_≡_};
 ghost use lib.ListN.{length};
 ghost use Rattle.rules.specs.Limits.{side-limit, line-limit};
-ghost use Rattle.envelope.specs.Line.{Line};
+ghost use Rattle.gauge.specs.Line.{Line};
 
 // The square of a number of columns.
 pub fn squared(d: u64) -> u64

@@ -15,8 +15,8 @@ use Rattle.rules.specs.Board.{Sides, cell, away}
 use Rattle.rules.specs.Columns.{RowWord}
 use Rattle.rules.specs.Calls.{Beyond}
 use Rattle.rules.proofs.Parts.{put-before, put-inside, part-length}
-use Rattle.envelope.specs.declared.Gauge.{Gauge}
-use Rattle.envelope.specs.Line.{Known, measured}
+use Rattle.gauge.specs.declared.Gauge.{Gauge}
+use Rattle.gauge.specs.Line.{Known, measured}
 use Rattle.rows.specs.Row.{Believed, RowMade}
 use Rattle.rows.proofs.RowLine.{row-same}
 use Rattle.maps.specs.Rows.{word-of, Believable, RowsMade}

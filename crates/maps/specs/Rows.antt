@@ -9,8 +9,8 @@ use Rattle.rules.specs.Limits.{mark}
 use Rattle.rules.specs.Board.{cell, away}
 use Rattle.rules.specs.Columns.{RowWord}
 use Rattle.rules.specs.Calls.{Beyond}
-use Rattle.envelope.specs.declared.Gauge.{Gauge}
-use Rattle.envelope.specs.Line.{measured}
+use Rattle.gauge.specs.declared.Gauge.{Gauge}
+use Rattle.gauge.specs.Line.{measured}
 
 -- the word of column i in row y
 abbrev pub word-of : ℕ → List ℕ → ℕ → ℕ → ℕ

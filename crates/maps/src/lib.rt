@@ -3,7 +3,7 @@ use chamfer::scan_map;
 use columns::sweep;
 use entry::scratch_words;
 use entry::set_front;
-use envelope::Gauge;
+use gauge::Gauge;
 use lines::all_rows;
 use refusals::pictures::PictureAsked;
 use refusals::pictures::of_picture;

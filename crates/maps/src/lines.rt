@@ -1,11 +1,11 @@
 // The rows of a map: every row line.
-use envelope::Gauge;
+use gauge::Gauge;
 use rows::row_line;
 use rules::SIDE;
 ghost use Prim.Native.Nat.{_+_, _*_, _≤_};
 ghost use lib.ListN.{length};
 ghost use Rattle.rules.specs.Board.{Sides};
-ghost use Rattle.envelope.specs.Line.{Known};
+ghost use Rattle.gauge.specs.Line.{Known};
 ghost use Rattle.maps.specs.Rows.{Believable, RowsMade};
 
 // All row lines, from the top. The words of the rows stand in the scratch's first w·h words, and the 2w after them are

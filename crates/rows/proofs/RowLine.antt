@@ -18,9 +18,9 @@ use Rattle.rules.specs.Measures.{measure}
 use Rattle.rules.specs.Columns.{RowWord}
 use Rattle.rules.proofs.Measures.{lawful}
 use Rattle.rules.proofs.Parts.{part-length, part-at, put-before}
-use Rattle.envelope.specs.declared.Gauge.{Gauge}
-use Rattle.envelope.specs.Line.{measured, Known, Line, Wins, height-at}
-use Rattle.envelope.proofs.Places.{apart-below}
+use Rattle.gauge.specs.declared.Gauge.{Gauge}
+use Rattle.gauge.specs.Line.{measured, Known, Line, Wins, height-at}
+use Rattle.gauge.proofs.Places.{apart-below}
 use Rattle.rows.specs.Row.{Named, value-of, Filled, Chosen, Written, Believed, RowMade}
 
 -- the value of a marked column, and of one that names a row

@@ -9,8 +9,8 @@ use lib.ListN.{length, getD, drop}
 use Rattle.rules.specs.Limits.{side-limit, mark, line-limit}
 use Rattle.rules.specs.Board.{cell, away}
 use Rattle.rules.specs.Columns.{RowWord}
-use Rattle.envelope.specs.declared.Gauge.{Gauge}
-use Rattle.envelope.specs.Line.{measured, Known, height-at}
+use Rattle.gauge.specs.declared.Gauge.{Gauge}
+use Rattle.gauge.specs.Line.{measured, Known, height-at}
 
 -- a column word that can be believed: a row below h, or the mark
 abbrev pub Named : ℕ → ℕ → Type 0

@@ -1,11 +1,11 @@
 // The row line: what a row makes of its column words, whoever put them there. Fill turns the words into values, the engine
 // finds the winning column of each place, and write-out puts the map word and the site. The three are apart, so that
 // another fill can use the same write-out.
-use envelope::Gauge;
-use envelope::engine::winners_of;
-use envelope::leaves::apart;
-use envelope::leaves::height;
-use envelope::leaves::lifted;
+use envelope::winners_of;
+use gauge::Gauge;
+use gauge::apart;
+use gauge::height;
+use gauge::lifted;
 use rules::LINE;
 use rules::MARK;
 use rules::wide;
@@ -14,7 +14,7 @@ ghost use mathlib.Core.Path.{_≡_};
 ghost use lib.ListN.{length, getD};
 ghost use Rattle.rules.specs.Limits.{side-limit};
 ghost use Rattle.rules.specs.Board.{cell};
-ghost use Rattle.envelope.specs.Line.{Known, Line, height-at};
+ghost use Rattle.gauge.specs.Line.{Known, Line, height-at};
 ghost use Rattle.rows.specs.Row.{Named, value-of, Filled, Chosen, Written, Believed, RowMade};
 
 // What a column word stands for in row y: its difference of rows lifted, or a value above every true one for a column with

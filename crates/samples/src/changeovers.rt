@@ -3,7 +3,7 @@ use crate::text::print;
 use crate::text::print_refusal;
 use crate::text::print_signed;
 use crate::text::print_word;
-use envelope::changeover;
+use changeover::changeover;
 use rules::ChangeoverAnswer;
 
 // "changeover 0, 1, a = 2000000, b = 0: "

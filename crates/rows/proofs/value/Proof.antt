@@ -5,8 +5,8 @@ use borrow.Author.Tests.{eq-eqb, ne-eqb}
 use native.Mathlib.Omega.{arith}
 use Rattle.rules.specs.Limits.{mark}
 use Rattle.rules.specs.Board.{away}
-use Rattle.envelope.specs.Line.{measured}
-use Rattle.envelope.proofs.Places.{apart-below}
+use Rattle.gauge.specs.Line.{measured}
+use Rattle.gauge.proofs.Places.{apart-below}
 use borrow.Author.Needs.{needs}
 use Rattle.rows.proofs.value.Statement.{statement}
 use Rattle.rows.proofs.value.Tie as tie

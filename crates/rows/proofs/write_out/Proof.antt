@@ -8,7 +8,7 @@ use lib.ListN.{length, getD}
 use Rattle.rules.specs.Limits.{side-limit}
 use Rattle.rules.specs.Board.{cell}
 use Rattle.rules.proofs.Filling.{Filling, filling-none, filling-more}
-use Rattle.envelope.specs.Line.{height-at}
+use Rattle.gauge.specs.Line.{height-at}
 use Rattle.rows.proofs.write_out.Statement.{statement}
 use Rattle.rows.proofs.write_out.Tie as tie
 

@@ -9,8 +9,8 @@ use lib.ListN.{length}
 use Rattle.rules.specs.Limits.{side-limit, mark}
 use Rattle.rules.specs.Board.{away, cost-at}
 use Rattle.rules.proofs.Refusals.{getD-within}
-use Rattle.envelope.specs.Line.{measured}
-use Rattle.envelope.proofs.Places.{apart-below}
+use Rattle.gauge.specs.Line.{measured}
+use Rattle.gauge.proofs.Places.{apart-below}
 use borrow.Author.Needs.{needs}
 use Rattle.cost_lines.proofs.row.column_value.Statement.{statement}
 use Rattle.cost_lines.proofs.row.column_value.Tie as tie

@@ -1,0 +1,105 @@
+-- `envelope::spread` meets its contract. The loop's invariant: the places from x on have their holders, and the
+-- place before x lies in the last stretch left. The measure is x. Assumes nothing.
+use mathlib.Core.Path.{refl, sym, _∙_}
+use Prim.Native.Nat.{_≤_}
+use native.Mathlib.Omega.{arith}
+use lib.ListN.{length}
+use Rattle.envelope.proofs.Spreading.{Spreading, spread-start, spread-start-of, spread-within, spread-end}
+use Rattle.envelope.proofs.spread.Statement.{statement}
+use Rattle.envelope.proofs.spread.Tie as tie
+
+abbrev Inv-loop : tie.InvT-loop
+Inv-loop work m winners₀ n q₀ x₀ winners q x = Spreading work m (length winners₀) winners q x
+
+abbrev μ-loop : tie.MeasureT-loop
+μ-loop work m winners₀ n q₀ x₀ winners q x = x
+
+-- what is known in the loop: the scan has so many stretches left, each within the work words
+abbrev within : (c : tie.In-loop Inv-loop μ-loop) → (1 ≤ c .before .loop .q) × (c .before .loop .q ≤ length (c .before .before .before .before .args .winners .now))
+within c =
+    let i = c .before .loop .inv in
+    let p = c .before .before .before .before .pre in
+    (i .some (c .loop-test .taken), omega (arith, i .most, p .most))
+
+loop-holds : tie.Need-loop-holds Inv-loop μ-loop
+loop-holds c = spread-start (c .before .before .pre) refl
+
+sub-x : tie.Need-sub-x Inv-loop μ-loop
+sub-x c = omega arith
+
+sub-winners : tie.Need-sub-winners Inv-loop μ-loop
+sub-winners c = c .before .loop .inv .some (c .loop-test .taken)
+
+add-winners : tie.Need-add-winners Inv-loop μ-loop
+add-winners c = omega (arith, within c)
+
+mul-winners : tie.Need-mul-winners Inv-loop μ-loop
+mul-winners c = omega (arith, within c)
+
+shared-slice-read-winners : tie.Need-shared-slice-read-winners Inv-loop μ-loop
+shared-slice-read-winners c = omega (arith, within (c .before))
+
+mul-winners-2 : tie.Need-mul-winners-2 Inv-loop μ-loop
+mul-winners-2 c = omega (arith, within (c .before))
+
+slice-write-winners : tie.Need-slice-write-winners Inv-loop μ-loop
+slice-write-winners c = omega (arith, within (c .before))
+
+sub-wide : tie.Need-sub-wide Inv-loop μ-loop
+sub-wide c = c .before .before .loop .inv .some (c .before .loop-test .taken)
+
+mul-wide : tie.Need-mul-wide Inv-loop μ-loop
+mul-wide c = omega (arith, within (c .before))
+
+shared-slice-read-wide : tie.Need-shared-slice-read-wide Inv-loop μ-loop
+shared-slice-read-wide c = omega (arith, within (c .before .before))
+
+wide-requires : tie.Need-wide-requires Inv-loop μ-loop
+wide-requires c κs = tt
+
+sub-q : tie.Need-sub-q Inv-loop μ-loop
+sub-q c = c .before .before .before .before .before .loop .inv .some (c .before .before .before .before .loop-test .taken)
+
+loop-less : tie.Need-loop-less Inv-loop μ-loop
+loop-less c = omega arith
+
+loop-again : tie.Need-loop-again Inv-loop μ-loop
+loop-again c = spread-start-of (c .before .before .before .before .before .before .before .before .pre) (c .before .before .before .before .before .loop .inv) (c .before .before .before .before .loop-test .taken) (sym (c .before .wide .ensures) ∙ c .if1 .taken)
+
+loop-less-2 : tie.Need-loop-less-2 Inv-loop μ-loop
+loop-less-2 c = omega arith
+
+loop-again-2 : tie.Need-loop-again-2 Inv-loop μ-loop
+loop-again-2 c = spread-within (c .before .before .before .before .before .before .before .before .pre) (c .before .before .before .before .before .loop .inv) (c .before .before .before .before .loop-test .taken) (λ e. c .if1 .left (c .before .wide .ensures ∙ e))
+
+same-length : tie.Need-same-length Inv-loop μ-loop
+same-length c = c .before .loop .inv .as-long
+
+returns : tie.Need-returns Inv-loop μ-loop
+returns c = spread-end (c .before .before .before .before .pre) (c .before .loop .inv) (c .loop-test .left)
+
+pub spread-spec : {M : Type 1} → statement M
+spread-spec =
+    tie.close
+    (tie.spec
+    Inv-loop
+    μ-loop
+    loop-holds
+    sub-x
+    sub-winners
+    add-winners
+    mul-winners
+    shared-slice-read-winners
+    mul-winners-2
+    slice-write-winners
+    sub-wide
+    mul-wide
+    shared-slice-read-wide
+    wide-requires
+    sub-q
+    loop-less
+    loop-again
+    loop-less-2
+    loop-again-2
+    same-length
+    returns)

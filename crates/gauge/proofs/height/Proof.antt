@@ -1,0 +1,30 @@
+-- `gauge::height` meets its contract: two places of a line are less than the side apart. Assumes nothing.
+use mathlib.Core.Path.{_∙_, ap}
+use native.Mathlib.Omega.{arith}
+use lib.ListN.{getD}
+use Rattle.gauge.specs.Line.{measured, height-at}
+use Rattle.gauge.proofs.Places.{apart-below}
+use borrow.Author.Needs.{needs}
+use Rattle.gauge.proofs.height.Statement.{statement}
+use Rattle.gauge.proofs.height.Tie as tie
+
+apart-requires : tie.Need-apart-requires
+apart-requires c κs = search needs
+
+mul-combined : tie.Need-mul-combined
+mul-combined c = search needs
+
+shared-slice-read-combined : tie.Need-shared-slice-read-combined
+shared-slice-read-combined c = search needs
+
+combined-requires : tie.Need-combined-requires
+combined-requires c κs = (c .before .before .before .pre .0, omega (arith, c .before .apart .ensures, apart-below (c .before .before .before .args .x) (c .before .before .before .args .i)), c .before .before .before .pre .1 .values-to (c .before .before .before .args .i) (c .before .before .before .pre .2))
+
+returns : tie.Need-returns
+unfolding height-at
+returns c = c .combined .ensures ∙ ap (λ dx. measured (c .before .before .before .before .args .g) .combine dx (getD (c .before .before .before .before .args .values .now) (c .before .before .before .before .args .i) 0)) (c .before .before .apart .ensures)
+
+pub height-spec : {M : Type 1} → statement M
+height-spec =
+    tie.close
+    (tie.spec apart-requires mul-combined shared-slice-read-combined combined-requires returns)

@@ -1,0 +1,50 @@
+-- `gauge::last` meets its contract, kind by kind; that i holds the first place is what each kind's function asks.
+-- Assumes nothing.
+use native.Mathlib.Nat.{mul-le-mul, le-pred-of-lt, div-le-self}
+use Prim.Native.Nat.{pred, _+_, _-_, _*_, _≤_, _<_}
+use native.Mathlib.Omega.{arith}
+use Rattle.rules.specs.Limits.{side-limit}
+use Rattle.gauge.proofs.Places.{first-away, third-kind, euclid-last}
+use Rattle.gauge.proofs.last.Statement.{statement}
+use Rattle.gauge.proofs.last.Tie as tie
+
+core-requires : tie.Need-core-requires
+core-requires c κs = let h = simp first-away at (rw (c .if1 .taken) at (c .before .pre .2)) in
+    omega (arith, h)
+
+returns : tie.Need-returns
+returns c =
+    let p = c .before .before .pre in
+    let h = simp first-away at (rw (c .before .if1 .taken) at (p .2)) in
+    let u = c .before .before .args .u in
+    let i = c .before .before .args .i in
+    let a = c .before .before .args .a in
+    let b = c .before .before .args .b in
+    let below : u < side-limit = omega arith in
+    let small : u * u ≤ pred side-limit * pred side-limit = mul-le-mul (le-pred-of-lt below) (le-pred-of-lt below) in (
+      omega (arith, c .core .ensures, div-le-self (u * u + b - (i * i + a)) (2 * (u - i))),
+      rw (c .before .if1 .taken, c .core .ensures) (euclid-last (c .before .before .args .n) i u a b (p .1 .apart) h),
+    )
+
+last-manhattan-requires : tie.Need-last-manhattan-requires
+last-manhattan-requires c κs = (c .before .before .pre .1, rw (c .if2 .taken) at (c .before .before .pre .2))
+
+returns-2 : tie.Need-returns-2
+returns-2 c = (c .last-manhattan .ensures .0, rw (c .before .if2 .taken) (c .last-manhattan .ensures .1))
+
+last-chessboard-requires : tie.Need-last-chessboard-requires
+last-chessboard-requires c κs = (c .before .before .pre .1, rw (third-kind (c .before .before .pre .0 .kind-in) (c .before .if1 .left) (c .if2 .left)) at (c .before .before .pre .2))
+
+returns-3 : tie.Need-returns-3
+returns-3 c = (c .last-chessboard .ensures .0, rw (third-kind (c .before .before .before .pre .0 .kind-in) (c .before .before .if1 .left) (c .before .if2 .left)) (c .last-chessboard .ensures .1))
+
+pub last-spec : {M : Type 1} → statement M
+last-spec =
+    tie.close
+    (tie.spec
+    core-requires
+    returns
+    last-manhattan-requires
+    returns-2
+    last-chessboard-requires
+    returns-3)

@@ -20,8 +20,8 @@ use Rattle.rules.proofs.Lane.{All, wide-iff, width-le, lane-exists, lane-first}
 use Rattle.rules.proofs.LaneLabels.{Flooded, Descends, none-as-wide, reached, best-by-widest}
 use Rattle.rules.specs.Limits.{mark}
 use Rattle.rules.proofs.Parts.{put-inside}
-use Rattle.courses.specs.Around.{Rows, Lists}
-use Rattle.courses.specs.Labelling.{at, Descending, Labels}
+use Rattle.flood.specs.Around.{Rows, Lists}
+use Rattle.flood.specs.Labelling.{at, Descending, Labels}
 use Rattle.courses.specs.Course.{Wide, Between, Reached, Walked, Laid}
 
 module _ {w : ℕ} (h : ℕ) {word : ℕ → ℕ} {v to : ℕ} {label : ℕ → ℕ} (L : Labels w (w * h) word v to label) where

@@ -10,10 +10,10 @@ use native.Mathlib.Omega.{arith}
 use lib.ListN.{length, set, length-set}
 use lib.Seq.{getD-set-same, getD-set-other}
 use Rattle.rules.specs.Lane.{Neighbours}
-use Rattle.courses.specs.Around.{Lies, Side}
-use Rattle.courses.specs.Labelling.{at, Descending}
+use Rattle.flood.specs.Around.{Lies, Side}
+use Rattle.flood.specs.Labelling.{at, Descending}
 use Rattle.courses.specs.Course.{Down, Walked}
-use Rattle.courses.proofs.Around.{around, lies-near, lies-rising}
+use Rattle.flood.proofs.Around.{around, lies-near, lies-rising}
 
 -- the sides of c before k do not lead to the label l, and one from k on does
 pub record Seeking (w n : ℕ) (label : ℕ → ℕ) (c l k : ℕ) : Type 0 where

@@ -7,7 +7,7 @@ use Prim.Native.Nat.{ℕ, _+_, _*_, _≤_, _<_}
 use lib.ListN.{take}
 use Rattle.rules.specs.Limits.{mark}
 use Rattle.rules.specs.Lane.{Neighbours, Lane, Best, width}
-use Rattle.courses.specs.Labelling.{at}
+use Rattle.flood.specs.Labelling.{at}
 
 -- a lane as wide as v
 pub record Wide (w h : ℕ) (word : ℕ → ℕ) (from to v : ℕ) : Type 0 where

@@ -1,3 +1,1 @@
-pub mod Around
-pub mod Labelling
 pub mod Course

@@ -1,18 +1,16 @@
-// The best lane over any list of words: a flood from the far end, the width by halving, and a walk down the labels of a
-// last flood. Whose words they are does not matter here.
-use crate::flood::flood;
+// The best lane over any list of words: the width by halving, with a flood for each width that is tried, and a walk
+// down the labels of a last flood. Whose words they are does not matter here.
 use crate::walk::walk;
 use crate::widths::width_of;
 use entry::set_all;
+use flood::flood;
 use rules::MARK;
 ghost use Prim.Native.Nat.{_<_};
 ghost use lib.ListN.{length};
-ghost use Rattle.courses.specs.Around.{Lists};
-ghost use Rattle.courses.specs.Labelling.{at};
+ghost use Rattle.flood.specs.Around.{Lists};
+ghost use Rattle.flood.specs.Labelling.{at};
 ghost use Rattle.courses.specs.Course.{Laid};
 
-mod flood;
-mod sides;
 mod walk;
 mod widths;
 

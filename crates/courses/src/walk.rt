@@ -1,11 +1,11 @@
 // The walk down the labels of a flood.
-use crate::sides::beside;
+use flood::sides::beside;
 use rules::wide;
 ghost use Prim.Native.Nat.{_<_};
 ghost use mathlib.Core.Path.{_≡_};
 ghost use lib.ListN.{length};
-ghost use Rattle.courses.specs.Around.{Rows};
-ghost use Rattle.courses.specs.Labelling.{at, Descending};
+ghost use Rattle.flood.specs.Around.{Rows};
+ghost use Rattle.flood.specs.Labelling.{at, Descending};
 ghost use Rattle.courses.specs.Course.{Has, Down, Walked};
 
 // Whether p is a cell with this label.

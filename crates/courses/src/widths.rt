@@ -1,10 +1,10 @@
 // The width by halving: some lane is as wide as `low`, and none is wider than `high`.
-use crate::flood::flood;
+use flood::flood;
 ghost use Prim.Native.Nat.{_<_, min};
 ghost use mathlib.Core.Path.{_≡_};
 ghost use lib.ListN.{length};
-ghost use Rattle.courses.specs.Around.{Lists};
-ghost use Rattle.courses.specs.Labelling.{at};
+ghost use Rattle.flood.specs.Around.{Lists};
+ghost use Rattle.flood.specs.Labelling.{at};
 ghost use Rattle.courses.specs.Course.{Reached, Between};
 
 // The lesser of two words.

@@ -19,8 +19,8 @@ use Rattle.rules.specs.Calls.{buffers, PictureLeft, LaneLeft}
 use Rattle.rules.proofs.Board.{cell-in, cells-few}
 use Rattle.rules.proofs.Parts.{front-beyond}
 use Rattle.rules.proofs.Refusals.{kind-good, weights-good, or-first, lane-row-by-row}
-use Rattle.courses.specs.Around.{Rows, Lists}
-use Rattle.courses.specs.Labelling.{at}
+use Rattle.flood.specs.Around.{Rows, Lists}
+use Rattle.flood.specs.Labelling.{at}
 use Rattle.courses.specs.Course.{Laid}
 
 -- the cells of the board lie in rows of its width

@@ -6,8 +6,8 @@ use native.Mathlib.Nat.{le-refl}
 use native.Mathlib.Omega.{arith}
 use lib.ListN.{length}
 use borrow.Rule.Slice.PartMut.{same-len-mid}
-use Rattle.courses.specs.Around.{Lists}
-use Rattle.courses.proofs.Around.{lists-kept}
+use Rattle.flood.specs.Around.{Lists}
+use Rattle.flood.proofs.Around.{lists-kept}
 use Rattle.courses.proofs.Lanes.{walkable, walk-few, laid}
 use Rattle.courses.proofs.best_lane.Statement.{statement}
 use Rattle.courses.proofs.best_lane.Tie as tie

@@ -4,7 +4,7 @@ use mathlib.Core.Path.{refl}
 use Prim.Native.Nat.{_-_}
 use native.Mathlib.Omega.{arith}
 use lib.ListN.{length}
-use Rattle.courses.specs.Labelling.{at}
+use Rattle.flood.specs.Labelling.{at}
 use Rattle.courses.proofs.Walking.{Seeking, seek-begins, seek-on, seek-ends}
 use Rattle.courses.proofs.walk.next.Statement.{statement}
 use Rattle.courses.proofs.walk.next.Tie as tie

@@ -4,7 +4,7 @@ use mathlib.Core.Path.{_∙_, sym}
 use Prim.Native.Nat.{_-_, _≤_}
 use native.Mathlib.Omega.{arith}
 use lib.ListN.{length}
-use Rattle.courses.specs.Labelling.{at}
+use Rattle.flood.specs.Labelling.{at}
 use Rattle.courses.proofs.Walking.{Walking, walk-begins, walk-goes, walk-ends}
 use Rattle.courses.proofs.walk.walk.Statement.{statement}
 use Rattle.courses.proofs.walk.walk.Tie as tie

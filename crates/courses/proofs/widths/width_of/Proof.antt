@@ -4,10 +4,10 @@ use mathlib.Core.Path.{_≡_, _∙_, sym, subst}
 use Prim.Native.Nat.{_-_, _^_, _≤_, _<_}
 use native.Mathlib.Omega.{arith}
 use lib.ListN.{length}
-use Rattle.courses.specs.Around.{Lists}
-use Rattle.courses.specs.Labelling.{at}
+use Rattle.flood.specs.Around.{Lists}
+use Rattle.flood.specs.Labelling.{at}
 use Rattle.courses.specs.Course.{Between}
-use Rattle.courses.proofs.Around.{lists-kept}
+use Rattle.flood.proofs.Around.{lists-kept}
 use Rattle.courses.proofs.Lanes.{halving-begins, halving-up, halving-down}
 use Rattle.courses.proofs.widths.width_of.Statement.{statement}
 use Rattle.courses.proofs.widths.width_of.Tie as tie

@@ -1,15 +1,15 @@
--- `courses::flood::flow` meets its contract. The loop's invariant: a flood under way. The measure is how many places of the
+-- `flood::flow` meets its contract. The loop's invariant: a flood under way. The measure is how many places of the
 -- queue are left for the head. Assumes nothing.
 use mathlib.Core.Path.{_∙_, sym}
 use Prim.Native.Nat.{_-_}
 use native.Mathlib.Omega.{arith}
 use lib.ListN.{length}
-use Rattle.courses.specs.Around.{Lists}
-use Rattle.courses.specs.Labelling.{at, Flow}
-use Rattle.courses.proofs.Around.{lists-kept}
-use Rattle.courses.proofs.Flowing.{queue-few, from-origin, as-begun, flow-ends}
-use Rattle.courses.proofs.flood.flow.Statement.{statement}
-use Rattle.courses.proofs.flood.flow.Tie as tie
+use Rattle.flood.specs.Around.{Lists}
+use Rattle.flood.specs.Labelling.{at, Flow}
+use Rattle.flood.proofs.Around.{lists-kept}
+use Rattle.flood.proofs.Flowing.{queue-few, from-origin, as-begun, flow-ends}
+use Rattle.flood.proofs.flow.Statement.{statement}
+use Rattle.flood.proofs.flow.Tie as tie
 
 abbrev Inv-loop : tie.InvT-loop
 Inv-loop w v words labels₀ queue₀ head₀ tail₀ labels queue head tail =

@@ -11,10 +11,10 @@ use native.Mathlib.Omega.{arith}
 use borrow.Author.Count.{below-more}
 use Rattle.rules.specs.Lane.{Neighbours}
 use Rattle.rules.proofs.Lane.{neighbours-sym}
-use Rattle.courses.specs.Around.{Lies, Side}
-use Rattle.courses.specs.Labelling.{Led, Labels, marks, Flow, Sided}
-use Rattle.courses.proofs.Around.{around}
-use Rattle.courses.proofs.Marks.{marks-le, marks-more}
+use Rattle.flood.specs.Around.{Lies, Side}
+use Rattle.flood.specs.Labelling.{Led, Labels, marks, Flow, Sided}
+use Rattle.flood.proofs.Around.{around}
+use Rattle.flood.proofs.Marks.{marks-le, marks-more}
 
 module _ {w n : ℕ} {word : ℕ → ℕ} {v to : ℕ} where
   -- no cell has a label yet, and the far end gets the first

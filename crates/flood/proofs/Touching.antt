@@ -8,11 +8,11 @@ use native.Mathlib.Omega.{arith}
 use lib.ListN.{length, set, length-set}
 use lib.Seq.{getD-set-same, getD-set-other}
 use Rattle.rules.specs.Lane.{Neighbours}
-use Rattle.courses.specs.Around.{Side}
-use Rattle.courses.specs.Labelling.{at, Flow, Sided, Touched, passed, entered}
-use Rattle.courses.proofs.Around.{lies-near}
-use Rattle.courses.proofs.Marks.{marks-room, marks-none, marks-more}
-use Rattle.courses.proofs.Flowing.{flow-begins, from-origin, side-passed, side-entered, flow-enters, head-moves}
+use Rattle.flood.specs.Around.{Side}
+use Rattle.flood.specs.Labelling.{at, Flow, Sided, Touched, passed, entered}
+use Rattle.flood.proofs.Around.{lies-near}
+use Rattle.flood.proofs.Marks.{marks-room, marks-none, marks-more}
+use Rattle.flood.proofs.Flowing.{flow-begins, from-origin, side-passed, side-entered, flow-enters, head-moves}
 
 -- the far end gets its label and enters the queue, when no cell has a label
 pub begun : {w v to : ℕ} (words labels queue : List ℕ) → length labels ≡ length words → length queue ≡ length words

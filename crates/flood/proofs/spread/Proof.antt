@@ -1,14 +1,14 @@
--- `courses::flood::spread` meets its contract. The loop's invariant: the sides before k have come up. The measure is how many
--- of the four are left. Assumes nothing.
+-- `flood::spread` meets its contract. The loop's invariant: the sides before k have come up. The measure is how many of
+-- the four are left. Assumes nothing.
 use mathlib.Core.Path.{refl, _∙_, sym}
 use Prim.Native.Nat.{_-_, _≤_, _<_}
 use native.Mathlib.Omega.{arith}
 use lib.ListN.{length}
-use Rattle.courses.specs.Labelling.{at}
-use Rattle.courses.proofs.Flowing.{queue-few, head-cell}
-use Rattle.courses.proofs.Touching.{Spreading, none-touched, room, touched, spread-out}
-use Rattle.courses.proofs.flood.spread.Statement.{statement}
-use Rattle.courses.proofs.flood.spread.Tie as tie
+use Rattle.flood.specs.Labelling.{at}
+use Rattle.flood.proofs.Flowing.{queue-few, head-cell}
+use Rattle.flood.proofs.Touching.{Spreading, none-touched, room, touched, spread-out}
+use Rattle.flood.proofs.spread.Statement.{statement}
+use Rattle.flood.proofs.spread.Tie as tie
 
 abbrev Inv-loop : tie.InvT-loop
 Inv-loop w v words labels₀ queue₀ head entered n c d x tail₀ k₀ labels queue tail k =

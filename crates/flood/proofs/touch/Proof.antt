@@ -1,13 +1,13 @@
--- `courses::flood::touch` meets its contract: a number that is no cell, a cell that is too narrow and a cell that has a label
+-- `flood::touch` meets its contract: a number that is no cell, a cell that is too narrow and a cell that has a label
 -- are passed over, and any other cell enters. Assumes nothing.
 use mathlib.Core.Path.{refl}
 use Prim.Native.Nat.{_<_}
 use native.Mathlib.Omega.{arith}
 use lib.ListN.{length}
 use borrow.Author.Needs.{needs}
-use Rattle.courses.specs.Labelling.{passed, entered}
-use Rattle.courses.proofs.flood.touch.Statement.{statement}
-use Rattle.courses.proofs.flood.touch.Tie as tie
+use Rattle.flood.specs.Labelling.{passed, entered}
+use Rattle.flood.proofs.touch.Statement.{statement}
+use Rattle.flood.proofs.touch.Tie as tie
 
 -- the queue has room for a cell without a label
 room : (c : tie.Else3) → let s = c .before .before .before .before .before in s .args .tail < length (s .args .words .now)

@@ -5,7 +5,7 @@ use mathlib.Core.Logic.{_≢_, by-cases}
 use Prim.Native.Nat.{ℕ, zero, suc, _+_, _≤_, _<_}
 use native.Mathlib.Decide.{ℕ-discrete}
 use native.Mathlib.Omega.{arith}
-use Rattle.courses.specs.Labelling.{marks}
+use Rattle.flood.specs.Labelling.{marks}
 
 -- no more labels than cells
 pub marks-le : (label : ℕ → ℕ) (n : ℕ) → marks label n ≤ n

@@ -1,15 +1,15 @@
--- `courses::flood::flood` meets its contract: the labels are cleared, and if the far end is wide enough it begins the flow.
+-- `flood::flood` meets its contract: the labels are cleared, and if the far end is wide enough it begins the flow.
 -- Assumes nothing.
 use mathlib.Core.Path.{_≡_, _∙_, subst}
 use native.Mathlib.Omega.{arith}
 use lib.ListN.{length, set, length-set}
 use lib.Seq.{getD-set-same}
 use borrow.Author.Needs.{needs}
-use Rattle.courses.specs.Labelling.{at, Labels}
-use Rattle.courses.proofs.Flowing.{none-labelled}
-use Rattle.courses.proofs.Touching.{begun}
-use Rattle.courses.proofs.flood.flood.Statement.{statement}
-use Rattle.courses.proofs.flood.flood.Tie as tie
+use Rattle.flood.specs.Labelling.{at, Labels}
+use Rattle.flood.proofs.Flowing.{none-labelled}
+use Rattle.flood.proofs.Touching.{begun}
+use Rattle.flood.proofs.flood.Statement.{statement}
+use Rattle.flood.proofs.flood.Tie as tie
 
 -- the way back from the cleared labels to the entry
 abbrev entry : tie.After-set-all → tie.Start

@@ -2,7 +2,7 @@
 ghost use Prim.Native.Nat.{_<_};
 ghost use mathlib.Core.Path.{_≡_};
 ghost use Rattle.rules.specs.Board.{column};
-ghost use Rattle.courses.specs.Around.{Rows, Side};
+ghost use Rattle.flood.specs.Around.{Rows, Side};
 
 // The cell on side k of the cell c, which stands in column x: 0 above, 1 to the left, 2 to the right, 3 below. A number
 // of n or more where there is none.

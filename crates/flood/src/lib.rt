@@ -1,12 +1,16 @@
-// The flood: labels and a queue of cell numbers, each as long as the board.
+// The flood from the far end of a lane over the cells that are wide enough: it tells whether some lane is as wide, and
+// its labels, 1 + the fewest steps of each cell that it reaches, lead a walk to the far end. Labels and a queue of cell
+// numbers, each as long as the board.
 use crate::sides::beside;
 use entry::set_all;
 use rules::wide;
-ghost use Prim.Native.Nat.{ℕ, _+_, _^_, _<_};
+ghost use Prim.Native.Nat.{_+_, _^_, _<_};
 ghost use mathlib.Core.Path.{_≡_};
 ghost use lib.ListN.{length};
-ghost use Rattle.courses.specs.Around.{Lists};
-ghost use Rattle.courses.specs.Labelling.{at, Labels, Flow, Touched};
+ghost use Rattle.flood.specs.Around.{Lists};
+ghost use Rattle.flood.specs.Labelling.{at, Labels, Flow, Touched};
+
+pub mod sides;
 
 // The cell p, if it is one, comes up with the label d. Answers how many cells have entered the queue.
 fn touch(

@@ -12,7 +12,7 @@ use lib.Arith.{digits-mod}
 use Rattle.rules.specs.Board.{column, row}
 use Rattle.rules.specs.Lane.{Neighbours}
 use Rattle.rules.proofs.Lane.{right, left, down, up, neighbours-beside}
-use Rattle.courses.specs.Around.{Rows, Lists, Lies, Side}
+use Rattle.flood.specs.Around.{Rows, Lists, Lies, Side}
 
 -- lists that keep their lengths are still the lists of a flood
 pub lists-kept : {w : ℕ} (words labels queue labels′ queue′ : List ℕ) → Lists w words labels queue

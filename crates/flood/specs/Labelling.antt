@@ -5,7 +5,7 @@ use mathlib.Core.List.{List}
 use Prim.Native.Nat.{ℕ, zero, suc, _+_, _≤_, _<_, min}
 use lib.ListN.{getD, set}
 use Rattle.rules.specs.Lane.{Neighbours}
-use Rattle.courses.specs.Around.{Lies}
+use Rattle.flood.specs.Around.{Lies}
 
 -- the word or the label of a cell, as a list holds it
 abbrev pub at : List ℕ → ℕ → ℕ

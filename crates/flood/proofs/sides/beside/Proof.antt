@@ -1,12 +1,12 @@
--- `courses::sides::beside` meets its contract, side by side. Assumes nothing.
+-- `flood::sides::beside` meets its contract, side by side. Assumes nothing.
 use mathlib.Core.Path.{_≡_, _∙_, sym, ap}
 use Prim.Native.Nat.{_+_}
 use native.Mathlib.Nat.{mod-le}
 use native.Mathlib.Omega.{arith}
 use borrow.Author.Needs.{needs}
-use Rattle.courses.proofs.Around.{above, none-above, to-left, none-left, to-right, none-right, below}
-use Rattle.courses.proofs.sides.beside.Statement.{statement}
-use Rattle.courses.proofs.sides.beside.Tie as tie
+use Rattle.flood.proofs.Around.{above, none-above, to-left, none-left, to-right, none-right, below}
+use Rattle.flood.proofs.sides.beside.Statement.{statement}
+use Rattle.flood.proofs.sides.beside.Tie as tie
 
 returns : tie.Need-returns
 returns c =

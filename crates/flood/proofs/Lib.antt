@@ -1,0 +1,4 @@
+pub mod Around
+pub mod Marks
+pub mod Flowing
+pub mod Touching

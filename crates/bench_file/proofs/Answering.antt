@@ -22,9 +22,9 @@ use Rattle.rules.proofs.TieRule.{least-unique}
 use Rattle.rules.proofs.BenchFile.{bored-length, bored-bytes}
 use Rattle.rules.proofs.Refusals.{sides-good, kind-good, weights-good, buffers-good, bytes-good}
 use Rattle.rules.proofs.Calls.{refused-call, made-call}
-use Rattle.bench_file.specs.Boring.{BoredBy}
+use Rattle.bench_records.specs.Boring.{BoredBy}
 use Rattle.bench_file.specs.Reading.{Passed, Peak}
-use Rattle.bench_file.proofs.Counting.{bores-none}
+use Rattle.bench_records.proofs.Counting.{bores-none}
 
 -- a test that holds gives its number
 holding : (b : Bool) (x y : ℕ) → b ≡ true → x ≡ cond b x y

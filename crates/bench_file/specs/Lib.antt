@@ -1,2 +1,1 @@
-pub mod Boring
 pub mod Reading

@@ -1,35 +1,22 @@
-// The bench file: the tests of its bytes, the picture that its records bore, and the three numbers of its answer.
+// The bench file: the tests of its bytes in their order, the map of the picture that its records bore, and the three
+// numbers of its answer.
+use bench_records::SIDE;
+use bench_records::bad_length;
+use bench_records::bore;
+use bench_records::off_board;
 use maps::picture_map;
-use records::SIDE;
-use records::bore;
-use records::off_board;
 use rules::BENCH_SIDE;
 use rules::BenchAnswer;
-use rules::FILE;
 ghost use Prim.Native.Nat.{_<_};
-ghost use mathlib.Core.Path.{_≡_};
 ghost use lib.ListN.{length};
-ghost use Rattle.rules.specs.Refusals.{bad-file};
 ghost use Rattle.rules.specs.Answers.{bench-number, bench-sites, bench-farthest, bench-cell};
 ghost use Rattle.rules.specs.Calls.{BenchCall};
 ghost use Rattle.bench_file.specs.Reading.{Passed, Ready, Peak};
-
-mod records;
 
 // The cells of the board.
 const CELLS: usize = SIDE * SIDE;
 // The words of scratch that its map asks for: "at least W·H + 2W + 2H".
 const SCRATCH: usize = CELLS + 2 * SIDE + 2 * SIDE;
-
-// 10: the length is not a multiple of 4, or over the limit.
-fn bad_length(bytes: usize) -> bool
-    ensures { λ r. ⌜ r ≡ bad-file bytes ⌝ }
-{
-    if bytes % 4 != 0 {
-        return true;
-    }
-    FILE < bytes
-}
 
 // The first of the greatest words.
 fn peak(words: &[u32]) -> usize

@@ -1,10 +1,10 @@
--- `bench_file::records::coordinate` meets its contract: each byte is below 256. Assumes nothing.
+-- `bench_records::coordinate` meets its contract: each byte is below 256. Assumes nothing.
 use native.Mathlib.Omega.{arith}
 use Prim.Native.Nat.{_+_, _<_}
 use lib.ListN.{getD}
 use borrow.Author.Needs.{needs}
-use Rattle.bench_file.proofs.records.coordinate.Statement.{statement}
-use Rattle.bench_file.proofs.records.coordinate.Tie as tie
+use Rattle.bench_records.proofs.coordinate.Statement.{statement}
+use Rattle.bench_records.proofs.coordinate.Tie as tie
 
 -- both bytes are below 256
 bytes : (c : tie.After-shared-slice-known2) → let a = c .before .before .args in

@@ -1,15 +1,15 @@
--- `bench_file::records::bore` meets its contract. The loop's invariant: the records before i are bored. The measure is what
+-- `bench_records::bore` meets its contract. The loop's invariant: the records before i are bored. The measure is what
 -- is left of the file. Assumes nothing.
 use mathlib.Core.Path.{_∙_, sym}
 use Prim.Native.Nat.{_+_, _-_, _<_}
 use native.Mathlib.Omega.{arith}
 use lib.ListN.{length}
 use Rattle.rules.specs.Limits.{bench-side}
-use Rattle.bench_file.proofs.FileRecords.{coordinate-at, record-inside}
-use Rattle.bench_file.proofs.Counting.{bores-few}
-use Rattle.bench_file.proofs.Boring.{Boring, boring-none, boring-more, boring-all}
-use Rattle.bench_file.proofs.records.bore.Statement.{statement}
-use Rattle.bench_file.proofs.records.bore.Tie as tie
+use Rattle.bench_records.proofs.FileRecords.{coordinate-at, record-inside}
+use Rattle.bench_records.proofs.Counting.{bores-few}
+use Rattle.bench_records.proofs.Boring.{Boring, boring-none, boring-more, boring-all}
+use Rattle.bench_records.proofs.bore.Statement.{statement}
+use Rattle.bench_records.proofs.bore.Tie as tie
 
 abbrev Inv-loop : tie.InvT-loop
 Inv-loop file picture₀ bores₀ i₀ picture bores i = Boring file picture₀ picture bores i

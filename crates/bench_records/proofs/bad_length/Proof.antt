@@ -1,12 +1,12 @@
--- `bench_file::bad_length` meets its contract: a length that is no multiple of 4 is one way in which the row holds, and the
--- limit is what is left of it. Assumes nothing.
+-- `bench_records::bad_length` meets its contract: a length that is no multiple of 4 is one way in which the row holds,
+-- and the limit is what is left of it. Assumes nothing.
 use mathlib.Core.Path.{sym}
 use borrow.Author.Tests.{eq-eqb}
 use Prim.Native.Nat.{_%_}
 use Rattle.rules.specs.Refusals.{bad-file}
 use Rattle.rules.proofs.Refusals.{holds-unless, file-passes}
-use Rattle.bench_file.proofs.bad_length.Statement.{statement}
-use Rattle.bench_file.proofs.bad_length.Tie as tie
+use Rattle.bench_records.proofs.bad_length.Statement.{statement}
+use Rattle.bench_records.proofs.bad_length.Tie as tie
 
 returns : tie.Need-returns
 returns c =

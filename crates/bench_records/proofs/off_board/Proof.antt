@@ -1,4 +1,4 @@
--- `bench_file::records::off_board` meets its contract. The loop's invariant: 11 holds of the file where it holds of the
+-- `bench_records::off_board` meets its contract. The loop's invariant: 11 holds of the file where it holds of the
 -- records from i on. The measure is what is left of the file. Assumes nothing.
 use mathlib.Core.Path.{_≡_, refl, _∙_, sym}
 use Prim.Native.Nat.{_-_, _≤_}
@@ -6,9 +6,9 @@ use native.Mathlib.Omega.{arith}
 use lib.ListN.{length, drop, length-drop}
 use Rattle.rules.specs.BenchFile.{outside}
 use Rattle.rules.proofs.Refusals.{holds-unless}
-use Rattle.bench_file.proofs.FileRecords.{record-inside, record-passes, outside-end}
-use Rattle.bench_file.proofs.records.off_board.Statement.{statement}
-use Rattle.bench_file.proofs.records.off_board.Tie as tie
+use Rattle.bench_records.proofs.FileRecords.{record-inside, record-passes, outside-end}
+use Rattle.bench_records.proofs.off_board.Statement.{statement}
+use Rattle.bench_records.proofs.off_board.Tie as tie
 
 abbrev Inv-loop : tie.InvT-loop
 Inv-loop file i₀ i = (outside file ≡ outside (drop i file)) × (i ≤ length file)

@@ -1,15 +1,28 @@
-// The records of a bench file: 4 bytes each, the column and then the row of a bore, each a little-endian u16.
+// The records of a bench file: 4 bytes each, the column and then the row of a bore, each a little-endian u16. The tests
+// of its bytes, and the picture that its records bore: all that reads the bytes, and nothing that knows of maps.
 use rules::BENCH_SIDE;
+use rules::FILE;
 ghost use Prim.Native.Nat.{_+_, _*_, _<_};
 ghost use mathlib.Core.Path.{_≡_};
 ghost use mathlib.Core.Bool.{false};
 ghost use lib.ListN.{length, getD};
 ghost use Rattle.rules.specs.Limits.{bench-side};
 ghost use Rattle.rules.specs.BenchFile.{u16-of, outside};
-ghost use Rattle.bench_file.specs.Boring.{BoredCell, BoredBy};
+ghost use Rattle.rules.specs.Refusals.{bad-file};
+ghost use Rattle.bench_records.specs.Boring.{BoredCell, BoredBy};
 
 // The board's side, as a number of columns or rows.
 pub const SIDE: usize = BENCH_SIDE as usize;
+
+// 10: the length is not a multiple of 4, or over the limit.
+pub fn bad_length(bytes: usize) -> bool
+    ensures { λ r. ⌜ r ≡ bad-file bytes ⌝ }
+{
+    if bytes % 4 != 0 {
+        return true;
+    }
+    FILE < bytes
+}
 
 // The coordinate whose two bytes begin at the place i.
 fn coordinate(file: &[u8], i: usize) -> usize

@@ -9,8 +9,8 @@ use lib.ListN.{length, drop, length-drop, length-set}
 use Rattle.rules.specs.Limits.{bench-side}
 use Rattle.rules.specs.Board.{cell}
 use Rattle.rules.specs.BenchFile.{bore-all, outside, bores}
-use Rattle.bench_file.specs.Boring.{BoredCell, BoredBy}
-use Rattle.bench_file.proofs.FileRecords.{coordinate-at, record-inside, bore-record, bore-end}
+use Rattle.bench_records.specs.Boring.{BoredCell, BoredBy}
+use Rattle.bench_records.proofs.FileRecords.{coordinate-at, record-inside, bore-record, bore-end}
 
 -- the records before the place i are bored
 pub record Boring (bytes before now : List ℕ) (fresh i : ℕ) : Type 0 where

@@ -1,11 +1,11 @@
--- `bench_file::records::bore_cell` meets its contract: a bored cell stays as it is, and a sound one is one more.
+-- `bench_records::bore_cell` meets its contract: a bored cell stays as it is, and a sound one is one more.
 -- Assumes nothing.
 use mathlib.Core.Path.{refl}
 use native.Mathlib.Omega.{arith}
-use Rattle.bench_file.proofs.Counting.{bored-again, bored-anew}
+use Rattle.bench_records.proofs.Counting.{bored-again, bored-anew}
 use borrow.Author.Needs.{needs}
-use Rattle.bench_file.proofs.records.bore_cell.Statement.{statement}
-use Rattle.bench_file.proofs.records.bore_cell.Tie as tie
+use Rattle.bench_records.proofs.bore_cell.Statement.{statement}
+use Rattle.bench_records.proofs.bore_cell.Tie as tie
 
 slice-read-if1 : tie.Need-slice-read-if1
 slice-read-if1 c = search needs

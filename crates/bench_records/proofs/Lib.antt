@@ -1,0 +1,3 @@
+pub mod FileRecords
+pub mod Counting
+pub mod Boring

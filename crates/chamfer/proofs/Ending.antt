@@ -11,8 +11,8 @@ use Rattle.rules.specs.Board.{cell}
 use Rattle.rules.specs.Measures.{chamfer-kind}
 use Rattle.rules.specs.Tie.{MapWord}
 use Rattle.rules.proofs.Board.{cell-in}
-use Rattle.chamfer.specs.declared.Board.{Board}
-use Rattle.chamfer.specs.Neighbours.{On, word}
+use Rattle.neighbours.specs.declared.Board.{Board}
+use Rattle.neighbours.specs.Neighbours.{On, word}
 use Rattle.chamfer.specs.Scans.{Reached, Scanned}
 
 -- what both scans have reached is the least of the closed form

@@ -11,10 +11,10 @@ use lib.IntN.{pos, _+ℤ_}
 use Rattle.rules.specs.Board.{cell, away}
 use Rattle.rules.specs.Measures.{chamfer}
 use Rattle.rules.specs.Table.{weight}
-use Rattle.chamfer.specs.declared.Board.{Board}
-use Rattle.chamfer.specs.Neighbours.{On, printed, Neighbour}
+use Rattle.neighbours.specs.declared.Board.{Board}
+use Rattle.neighbours.specs.Neighbours.{On, printed, Neighbour}
 use Rattle.chamfer.specs.Scans.{apart, Come}
-use Rattle.chamfer.proofs.Moves.{one-back, no-step}
+use Rattle.neighbours.proofs.Moves.{one-back, no-step}
 
 -- a slanted step: both differences grow
 slanted : (d1 d2 dx dy : ℕ) → chamfer d1 d2 (suc dx) (suc dy) ≡ chamfer d1 d2 dx dy + d2

@@ -12,11 +12,11 @@ use Rattle.rules.specs.Measures.{Weights}
 use Rattle.rules.specs.Table.{step, none}
 use Rattle.rules.proofs.Board.{cell-in}
 use Rattle.rules.proofs.Table.{entry, never-too-small}
-use Rattle.chamfer.specs.declared.Board.{Board}
-use Rattle.chamfer.specs.Neighbours.{Words, On, Offered, Lowest, Turned}
+use Rattle.neighbours.specs.declared.Board.{Board}
+use Rattle.neighbours.specs.Neighbours.{Words, On, Offered, Lowest, Turned}
 use Rattle.chamfer.specs.Scans.{forward-scan, backward-scan, Bore, apart, Held, Come, Reached, Scan}
 use Rattle.chamfer.specs.Scans.{Done, Sweep, Swept}
-use Rattle.chamfer.proofs.Cells.{each-word, words-after}
+use Rattle.neighbours.proofs.Cells.{each-word, words-after}
 use Rattle.chamfer.proofs.Nearer.{Before, nearer}
 
 -- a bore that holds a neighbour holds the cell through it

@@ -8,8 +8,8 @@ use lib.ListN.{length, getD, drop}
 use Rattle.rules.specs.Board.{cell, Bored}
 use Rattle.rules.specs.Measures.{chamfer-kind}
 use Rattle.rules.specs.Tie.{bore-word, MapWord}
-use Rattle.chamfer.specs.declared.Board.{Board}
-use Rattle.chamfer.specs.Neighbours.{far, Words, On, word}
+use Rattle.neighbours.specs.declared.Board.{Board}
+use Rattle.neighbours.specs.Neighbours.{far, Words, On, word}
 
 -- the cell (i, j) of the board is bored
 pub record Bore (b : Board) (picture : List ℕ) (i j : ℕ) : Type 0 where

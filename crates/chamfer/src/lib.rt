@@ -1,7 +1,7 @@
 // Kind 3: the two scans of document 003, which make the map of least chamfer distances in place.
-mod neighbours;
 mod scans;
 
+use neighbours::Board;
 use scans::map_words;
 ghost use Prim.Native.Nat.{_*_, _≤_};
 ghost use mathlib.Core.Path.{_≡_};
@@ -10,14 +10,6 @@ ghost use Rattle.rules.specs.Board.{Sides, Bored};
 ghost use Rattle.rules.specs.Measures.{Weights};
 ghost use Rattle.rules.specs.Accepted.{Somewhere};
 ghost use Rattle.chamfer.specs.Scans.{Scanned};
-
-// A board of `w` columns and `h` rows, with the weights of a straight and of a slanted step.
-struct Board {
-    w: usize,
-    h: usize,
-    d1: u32,
-    d2: u32,
-}
 
 // Makes the map of a picture in the first w·h words of `distances`.
 pub fn scan_map(w: usize, h: usize, d1: u32, d2: u32, picture: &[u8], distances: &mut [u32])

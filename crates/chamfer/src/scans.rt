@@ -1,12 +1,12 @@
 // The two scans, row by row, over one word for each cell of the board.
-use crate::Board;
-use crate::neighbours::relax;
+use neighbours::Board;
+use neighbours::relax;
 ghost use Prim.Native.Nat.{_+_, _*_, _<_};
 ghost use mathlib.Core.Path.{_≡_};
 ghost use lib.ListN.{length};
 ghost use Rattle.rules.specs.Board.{cell, Bored};
 ghost use Rattle.rules.specs.Accepted.{Somewhere};
-ghost use Rattle.chamfer.specs.Neighbours.{Ruled, Words};
+ghost use Rattle.neighbours.specs.Neighbours.{Ruled, Words};
 ghost use Rattle.chamfer.specs.Scans.{Reached, Scan, Swept, first-word, Begun, forward-scan, backward-scan};
 
 // "b(i,j) = ∞": a word above every true one, to which a weight can be added.

@@ -3,7 +3,7 @@
 use Prim.Native.Nat.{_+_, _-_, _≤_}
 use native.Mathlib.Omega.{arith}
 use Rattle.rules.specs.Board.{cell}
-use Rattle.chamfer.specs.Neighbours.{On}
+use Rattle.neighbours.specs.Neighbours.{On}
 use Rattle.chamfer.specs.Scans.{Swept, backward-scan}
 use Rattle.chamfer.proofs.Sweeps.{stay, and-then, backward-turn}
 use Rattle.chamfer.proofs.scans.backward_row.Statement.{statement}

@@ -1,14 +1,14 @@
--- `chamfer::neighbours::offer_of` meets its contract: the cell has a word, which is at most `far` and so has room for a
--- weight. Assumes nothing.
+-- `neighbours::offer_of` meets its contract: the cell has a word, which is at most `far` and so has room for a weight.
+-- Assumes nothing.
 use Prim.Native.Nat.{_<_}
 use native.Mathlib.Omega.{arith}
 use borrow.Author.Needs.{needs}
 use lib.ListN.{length}
 use Rattle.rules.specs.Board.{cell}
-use Rattle.chamfer.proofs.Cells.{has-word}
-use Rattle.chamfer.proofs.Moves.{weight-most}
-use Rattle.chamfer.proofs.neighbours.offer_of.Statement.{statement}
-use Rattle.chamfer.proofs.neighbours.offer_of.Tie as tie
+use Rattle.neighbours.proofs.Cells.{has-word}
+use Rattle.neighbours.proofs.Moves.{weight-most}
+use Rattle.neighbours.proofs.offer_of.Statement.{statement}
+use Rattle.neighbours.proofs.offer_of.Tie as tie
 
 -- the cell has a word
 within : (c : tie.Start) → cell (c .args .b .w) (c .args .x) (c .args .y) < length (c .args .words .now)

@@ -10,7 +10,7 @@ use Rattle.rules.specs.Board.{Sides, cell}
 use Rattle.rules.specs.Measures.{Weights}
 use Rattle.rules.specs.Table.{step, none, steps, weight, Leads}
 use Rattle.rules.specs.declared.Step.{Step}
-use Rattle.chamfer.specs.declared.Board.{Board}
+use Rattle.neighbours.specs.declared.Board.{Board}
 
 -- the word of a cell that no bore has reached: above every true word, with room for a weight
 abbrev pub far : ℕ

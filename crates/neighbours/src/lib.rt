@@ -1,12 +1,20 @@
-// What a cell takes from its neighbours, by the table of document 003.
-use crate::Board;
+// What a cell takes from its neighbours, by the table of document 003: the turn of one cell, which both scans of kind 3
+// repeat. Which cells have their turn, and when, is not asked here.
 use rules::Step;
 ghost use Prim.Native.Nat.{_+_, _≤_, _<_};
 ghost use mathlib.Core.Path.{_≡_};
 ghost use lib.IntN.{natAbs};
 ghost use Rattle.rules.specs.Limits.{side-limit};
 ghost use Rattle.rules.specs.Table.{weight};
-ghost use Rattle.chamfer.specs.Neighbours.{Ruled, Words, On, word, printed, Moved, Lesser, Lowest, Turned};
+ghost use Rattle.neighbours.specs.Neighbours.{Ruled, Words, On, word, printed, Moved, Lesser, Lowest, Turned};
+
+// A board of `w` columns and `h` rows, with the weights of a straight and of a slanted step.
+pub struct Board {
+    pub w: usize,
+    pub h: usize,
+    pub d1: u32,
+    pub d2: u32,
+}
 
 // "each neighbour with its row step, column step and choice of weight", as 003 prints them. The forward scan:
 // b(i−1,j−1)+d2, b(i−1,j)+d1, b(i−1,j+1)+d2, b(i,j−1)+d1; the backward scan: b(i,j+1)+d1, b(i+1,j−1)+d2, b(i+1,j)+d1,

@@ -1,10 +1,9 @@
--- `chamfer::neighbours::weight_of` meets its contract: a choice that is neither 0 nor 1 is the slanted weight. Assumes
--- nothing.
+-- `neighbours::weight_of` meets its contract: a choice that is neither 0 nor 1 is the slanted weight. Assumes nothing.
 use mathlib.Core.Path.{sym}
 use borrow.Author.Needs.{needs}
-use Rattle.chamfer.proofs.Moves.{slanted-weight}
-use Rattle.chamfer.proofs.neighbours.weight_of.Statement.{statement}
-use Rattle.chamfer.proofs.neighbours.weight_of.Tie as tie
+use Rattle.neighbours.proofs.Moves.{slanted-weight}
+use Rattle.neighbours.proofs.weight_of.Statement.{statement}
+use Rattle.neighbours.proofs.weight_of.Tie as tie
 
 returns : tie.Need-returns
 returns c = search needs

@@ -1,9 +1,8 @@
--- `chamfer::neighbours::entry` meets its contract: the constant table and the rules' table are the same list. Assumes
--- nothing.
+-- `neighbours::entry` meets its contract: the constant table and the rules' table are the same list. Assumes nothing.
 use mathlib.Core.Path.{refl}
 use native.Mathlib.Omega.{arith}
-use Rattle.chamfer.proofs.neighbours.entry.Statement.{statement}
-use Rattle.chamfer.proofs.neighbours.entry.Tie as tie
+use Rattle.neighbours.proofs.entry.Statement.{statement}
+use Rattle.neighbours.proofs.entry.Tie as tie
 
 mul-result : tie.Need-mul-result
 mul-result c = omega arith

@@ -1,13 +1,13 @@
--- `chamfer::neighbours::relax` meets its contract: the lowest word is stored in the cell's own place. Assumes nothing.
+-- `neighbours::relax` meets its contract: the lowest word is stored in the cell's own place. Assumes nothing.
 use mathlib.Core.Path.{refl}
 use Prim.Native.Nat.{_<_}
 use native.Mathlib.Omega.{arith}
 use borrow.Author.Needs.{needs}
 use lib.ListN.{length}
 use Rattle.rules.specs.Board.{cell}
-use Rattle.chamfer.proofs.Cells.{has-word}
-use Rattle.chamfer.proofs.neighbours.relax.Statement.{statement}
-use Rattle.chamfer.proofs.neighbours.relax.Tie as tie
+use Rattle.neighbours.proofs.Cells.{has-word}
+use Rattle.neighbours.proofs.relax.Statement.{statement}
+use Rattle.neighbours.proofs.relax.Tie as tie
 
 lowest-requires : tie.Need-lowest-requires
 lowest-requires c κs = search needs

@@ -8,8 +8,8 @@ use lib.ListN.{length, set, length-set}
 use lib.Seq.{getD-set-same, getD-set-other}
 use Rattle.rules.specs.Board.{cell}
 use Rattle.rules.proofs.Board.{cell-in, cell-inj}
-use Rattle.chamfer.specs.declared.Board.{Board}
-use Rattle.chamfer.specs.Neighbours.{far, Words, On, word}
+use Rattle.neighbours.specs.declared.Board.{Board}
+use Rattle.neighbours.specs.Neighbours.{far, Words, On, word}
 
 -- a cell of the board has a word
 pub has-word : {b : Board} {words : List ℕ} {x y : ℕ} → Words b words → On b x y → cell (b .w) x y < length words

@@ -1,14 +1,14 @@
--- `chamfer::neighbours::lesser` meets its contract. The entry read is the printed one, so the column and the row worked
--- out are those of its neighbour, where there is one. Assumes nothing.
+-- `neighbours::lesser` meets its contract. The entry read is the printed one, so the column and the row worked out are
+-- those of its neighbour, where there is one. Assumes nothing.
 use Prim.Native.Nat.{_≤_}
 use lib.IntN.{natAbs}
 use native.Mathlib.Omega.{arith}
 use borrow.Author.Needs.{needs}
-use Rattle.chamfer.specs.Neighbours.{On, Moved}
-use Rattle.chamfer.proofs.Moves.{as-read, known}
-use Rattle.chamfer.proofs.Taking.{off-column, off-row, taken, kept}
-use Rattle.chamfer.proofs.neighbours.lesser.Statement.{statement}
-use Rattle.chamfer.proofs.neighbours.lesser.Tie as tie
+use Rattle.neighbours.specs.Neighbours.{On, Moved}
+use Rattle.neighbours.proofs.Moves.{as-read, known}
+use Rattle.neighbours.proofs.Taking.{off-column, off-row, taken, kept}
+use Rattle.neighbours.proofs.lesser.Statement.{statement}
+use Rattle.neighbours.proofs.lesser.Tie as tie
 
 entry-requires : tie.Need-entry-requires
 entry-requires c κs = search needs

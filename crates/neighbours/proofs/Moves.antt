@@ -8,7 +8,7 @@ use mir.Syntax.{w32}
 use mir.Val.{ofZ, toZ}
 use mir.ValLaws.{toZ-ofZ}
 use Rattle.rules.specs.Table.{back, none, on, weight}
-use Rattle.chamfer.specs.Neighbours.{printed, Moved}
+use Rattle.neighbours.specs.Neighbours.{printed, Moved}
 
 -- one back
 pub one-back : (n : ℕ) → 0 < n → pos (n - 1) ≡ pos n +ℤ back

@@ -1,5 +1,5 @@
--- `chamfer::neighbours::moved` meets its contract. The tests read the step's bits: those of 0 are `none`, those of 1
--- are `on`, and a step of at most one that is neither is `back`. Assumes nothing.
+-- `neighbours::moved` meets its contract. The tests read the step's bits: those of 0 are `none`, those of 1 are `on`,
+-- and a step of at most one that is neither is `back`. Assumes nothing.
 use mathlib.Core.Path.{_≡_, sym, _∙_, ap}
 use Prim.Native.Nat.{ℕ}
 use borrow.Author.Needs.{needs}
@@ -7,9 +7,9 @@ use native.Mathlib.Omega.{arith}
 use mir.Syntax.{w32}
 use mir.Val.{ofZ, toZ}
 use Rattle.rules.specs.Table.{back}
-use Rattle.chamfer.proofs.Moves.{one-back, no-step, leads-to, leads-off, only-back, as-read}
-use Rattle.chamfer.proofs.neighbours.moved.Statement.{statement}
-use Rattle.chamfer.proofs.neighbours.moved.Tie as tie
+use Rattle.neighbours.proofs.Moves.{one-back, no-step, leads-to, leads-off, only-back, as-read}
+use Rattle.neighbours.proofs.moved.Statement.{statement}
+use Rattle.neighbours.proofs.moved.Tie as tie
 
 -- the step by its bits
 by-bits : (c : tie.Start) (bits : ℕ) → ofZ w32 (c .args .by) ≡ bits → c .args .by ≡ toZ w32 bits

@@ -1,15 +1,15 @@
--- `chamfer::neighbours::lowest` meets its contract. The loop's invariant: `best` is the least over the entries before
--- `k`, which is none past the last. The measure is what is left of the entries. Assumes nothing.
+-- `neighbours::lowest` meets its contract. The loop's invariant: `best` is the least over the entries before `k`, which
+-- is none past the last. The measure is what is left of the entries. Assumes nothing.
 use Prim.Native.Nat.{_-_, _≤_, _<_}
 use native.Mathlib.Nat.{le-refl, le-antisymm}
 use native.Mathlib.Omega.{arith}
 use lib.ListN.{length}
 use Rattle.rules.specs.Board.{cell}
-use Rattle.chamfer.specs.Neighbours.{Lowest}
-use Rattle.chamfer.proofs.Cells.{has-word}
-use Rattle.chamfer.proofs.Taking.{own-word, one-more}
-use Rattle.chamfer.proofs.neighbours.lowest.Statement.{statement}
-use Rattle.chamfer.proofs.neighbours.lowest.Tie as tie
+use Rattle.neighbours.specs.Neighbours.{Lowest}
+use Rattle.neighbours.proofs.Cells.{has-word}
+use Rattle.neighbours.proofs.Taking.{own-word, one-more}
+use Rattle.neighbours.proofs.lowest.Statement.{statement}
+use Rattle.neighbours.proofs.lowest.Tie as tie
 
 abbrev Inv-loop : tie.InvT-loop
 Inv-loop b words x y from to w best₀ k₀ best k = Lowest b words x y from k best × (from ≤ k) × (k ≤ to)

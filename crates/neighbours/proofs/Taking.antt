@@ -9,8 +9,8 @@ use native.Mathlib.Decide.{ℕ-discrete}
 use native.Mathlib.Omega.{arith}
 use Rattle.rules.specs.Table.{weight, Leads}
 use Rattle.rules.specs.declared.Step.{Step}
-use Rattle.chamfer.specs.declared.Board.{Board}
-use Rattle.chamfer.specs.Neighbours.{word, On, printed, Moved, Neighbour, offer, Offered, Lesser, Lowest}
+use Rattle.neighbours.specs.declared.Board.{Board}
+use Rattle.neighbours.specs.Neighbours.{word, On, printed, Moved, Neighbour, offer, Offered, Lesser, Lowest}
 
 module _ {b : Board} {x y k : ℕ} {s : Step} (is : s ≡ printed k) where
   -- the column that was worked out is the neighbour's

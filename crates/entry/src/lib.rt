@@ -1,5 +1,5 @@
-// What the entries on boards share: the rows of document 01's table that a board can break, each function answering
-// whether its row holds, and the words that are set when a map is done.
+// What the entries on boards share: the rows of document 01's table that more than one of them tests or that look at a
+// whole picture, each function answering whether its row holds; and setting words to one value.
 use rules::SIDE;
 use rules::WEIGHT;
 ghost use Prim.Native.Nat.{ℕ, _≤_, _<_};

@@ -1,6 +1,6 @@
--- What the engine along a line answers. A column i of the line has a curve: its height at the place x is what the
--- measure makes of |x − i| and the column's value. At each place the engine names the lowest curve, the least column on
--- a tie. Assumes nothing.
+-- A line, its curves, and which column wins at a place. A column i of the line has a curve: its height at the place x is
+-- what the measure makes of |x − i| and the column's value. At each place the lowest curve wins, the least column on a tie;
+-- `envelope` finds the winners. Assumes nothing.
 use mathlib.Core.Path.{_≡_}
 use mathlib.Core.List.{List}
 use Prim.Native.Nat.{ℕ, _≤_, _<_}

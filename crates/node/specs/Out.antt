@@ -1,5 +1,5 @@
 -- "A refusal is its number alone": a word that a C function answers through a pointer keeps its value on a refusal. What it
--- holds where the number is 0 is the entry's record to say. Assumes nothing.
+-- holds where the number is 0 is the entry's call to say. Assumes nothing.
 use mathlib.Core.Path.{_≡_}
 use mathlib.Core.Logic.{_≢_}
 use Prim.Native.Nat.{ℕ}

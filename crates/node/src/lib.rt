@@ -1,5 +1,5 @@
 // The C functions of the static library. Each passes on to the entry that it wraps and has the same promise, by the same
-// record of the rules; where the entry answers an enum, the C function answers its number and writes its values, and a
+// call of the rules; where the entry answers an enum, the C function answers its number and writes its values, and a
 // refusal writes nothing. `include/olavinthu.h` declares them.
 use changeover::changeover;
 use costs::cost_map;

@@ -1,5 +1,5 @@
 -- What each entry answers and leaves, over numbers and lists: one `Call` an entry, which the entry's contract and its C
--- twin's both cite. The laws of `proofs/Pinned.antt` say that one input allows one answer and one content of each lent
+-- twin's both cite (the words that a C twin answers through pointers have `Out` in `node` besides). The laws of `proofs/Pinned.antt` say that one input allows one answer and one content of each lent
 -- list. Assumes nothing.
 use mathlib.Core.Path.{_≡_}
 use mathlib.Core.Logic.{_≢_}
@@ -26,7 +26,7 @@ pub record Call (rows : List Row) (number : ℕ) (Kept Done : Type 0) : Type 0 w
   pub refused : number ≢ 0 → Kept
   pub done : number ≡ 0 → Done
 
--- a call that is lent nothing to write
+-- a call of an entry that is lent nothing to write
 abbrev pub AnswerOnly : List Row → ℕ → Type 0 → Type 0
 AnswerOnly rows number Done = Call rows number (Unit {0}) Done
 

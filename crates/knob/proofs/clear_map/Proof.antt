@@ -14,7 +14,7 @@ use Rattle.knob.proofs.Clearing.{refused-4, refused-8, all-cleared}
 use Rattle.knob.proofs.clear_map.Statement.{statement}
 use Rattle.knob.proofs.clear_map.Tie as tie
 
--- the entry's record, from past the first test
+-- the entry's call, from past the first test
 abbrev start : tie.Else1 → tie.Start
 start c = c .before .before .before .before
 

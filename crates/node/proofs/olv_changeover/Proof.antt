@@ -1,4 +1,4 @@
--- `node::olv_changeover` meets its contract: the entry's record for each of its answer's cases. Assumes nothing.
+-- `node::olv_changeover` meets its contract: the entry's call for each of its answer's cases. Assumes nothing.
 use mathlib.Core.Path.{subst}
 use native.Mathlib.Omega.{arith}
 use mir.Syntax.{w32}

@@ -1,4 +1,4 @@
--- `node::olv_lane` meets its contract: the entry's record for each of its answer's cases. Assumes nothing.
+-- `node::olv_lane` meets its contract: the entry's call for each of its answer's cases. Assumes nothing.
 use Rattle.rules.proofs.Calls.{of-any}
 use Rattle.node.proofs.Outs.{same, told, lane-as, no-lane}
 use borrow.Author.Needs.{needs}

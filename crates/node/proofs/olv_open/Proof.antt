@@ -1,4 +1,4 @@
--- `node::olv_open` meets its contract: the entry's record for each of its answer's cases. Assumes nothing.
+-- `node::olv_open` meets its contract: the entry's call for each of its answer's cases. Assumes nothing.
 use mathlib.Core.Path.{subst}
 use native.Mathlib.Omega.{arith}
 use Rattle.rules.specs.Answers.{opening-number, opening-a, opening-b}

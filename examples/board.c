@@ -1,9 +1,9 @@
 /*
  * A small board from end to end: its map, its clear map, its widest lane, and a call that is refused.
  *
- * After `rt staticlib node`, from the repository's root:
+ * After `rt staticlib olavinthu`, from the repository's root:
  *
- *     cc -std=c11 -Iinclude examples/board.c target/staticlib/libnode.a -o target/board && target/board
+ *     cc -std=c11 -Iinclude examples/board.c target/staticlib/libolavinthu.a -o target/board && target/board
  *
  * It prints examples/board.txt and answers 0, or 1 where something is not as it should be.
  */

@@ -1,5 +1,5 @@
 /*
- * Olavinthu: clearance maps for chest boards, from the proved archive libnode.a.
+ * Olavinthu: clearance maps for chest boards, from the proved archive libolavinthu.a.
  *
  * A board has w columns and h rows, each from 1 to 512. Cell (x, y), x to the right and y downward, has the number
  * y * w + x. A picture has one byte a cell, 1 bored and 0 sound.

@@ -13,8 +13,8 @@ use lib.Dec.{lit<, lit≤}
 use lib.ListN.{length, getD, replicate}
 use Rattle.rules.specs.Limits.{bench-side}
 use Rattle.rules.specs.Board.{cell, column, row}
-use Rattle.rules.specs.BenchFile.{bore-all, bored-by, outside, bores, BenchWord, Farthest}
-use Rattle.rules.specs.Refusals.{answer, bad-file, no-bore, scratch-words, picture-rows, file-rows}
+use Rattle.rules.specs.BenchFile.{bore-all, bored-by, off-board, bores, BenchWord, Farthest}
+use Rattle.rules.specs.Refusals.{answer, bad-length, no-bore, scratch-words, picture-rows, file-rows}
 use Rattle.rules.specs.Accepted.{Bytes}
 use Rattle.rules.specs.Calls.{BenchCall}
 use Rattle.rules.proofs.Board.{cell-in, cell-of, column-below, row-below}
@@ -23,7 +23,7 @@ use Rattle.rules.proofs.BenchFile.{bored-length, bored-bytes}
 use Rattle.rules.proofs.Refusals.{sides-good, kind-good, weights-good, buffers-good, bytes-good}
 use Rattle.rules.proofs.Calls.{refused-call, made-call}
 use Rattle.bench_records.specs.Boring.{BoredBy}
-use Rattle.bench_file.specs.Reading.{Passed, Peak}
+use Rattle.bench_file.specs.Reading.{Readable, Peak}
 use Rattle.bench_records.proofs.Counting.{bores-none}
 
 -- a test that holds gives its number
@@ -38,18 +38,18 @@ passing false x e same = same
 
 module _ (bytes : List ℕ) where
   -- 10 holds
-  pub ten : bad-file (length bytes) ≡ true → BenchCall bytes 10 0 0 0
-  ten e = refused-call (holding (bad-file (length bytes)) _ _ e) (λ z. omega arith) tt
+  pub ten : bad-length (length bytes) ≡ true → BenchCall bytes 10 0 0 0
+  ten e = refused-call (holding (bad-length (length bytes)) _ _ e) (λ z. omega arith) tt
 
   -- 10 does not hold, and 11 does
-  pub eleven : bad-file (length bytes) ≡ false → outside bytes ≡ true → BenchCall bytes 11 0 0 0
+  pub eleven : bad-length (length bytes) ≡ false → off-board bytes ≡ true → BenchCall bytes 11 0 0 0
   eleven p e =
-      refused-call (passing (bad-file (length bytes)) _ p (holding (outside bytes) _ _ e)) (λ z. omega arith) tt
+      refused-call (passing (bad-length (length bytes)) _ p (holding (off-board bytes) _ _ e)) (λ z. omega arith) tt
 
-  module _ (P : Passed bytes) where
+  module _ (P : Readable bytes) where
     -- past 10 and 11 the answer is up to 6
     past : {n : ℕ} → n ≡ cond (no-bore (bored-by bytes)) 6 0 → n ≡ answer (file-rows bytes)
-    past same = passing (bad-file (length bytes)) _ (P .whole) (passing (outside bytes) _ (P .inside) same)
+    past same = passing (bad-length (length bytes)) _ (P .whole) (passing (off-board bytes) _ (P .inside) same)
 
     -- 6 holds
     pub six : {picture : List ℕ} → picture ≡ bored-by bytes → no-bore picture ≡ true → BenchCall bytes 6 0 0 0

@@ -6,13 +6,13 @@ use mathlib.Core.List.{List}
 use Prim.Native.Nat.{ℕ, _*_, _≤_, _<_}
 use lib.ListN.{length, getD, replicate}
 use Rattle.rules.specs.Limits.{bench-side}
-use Rattle.rules.specs.BenchFile.{outside}
-use Rattle.rules.specs.Refusals.{bad-file, scratch-words}
+use Rattle.rules.specs.BenchFile.{off-board}
+use Rattle.rules.specs.Refusals.{bad-length, scratch-words}
 
 -- neither 10 nor 11 holds of the bytes
-pub record Passed (bytes : List ℕ) : Type 0 where
-  pub whole : bad-file (length bytes) ≡ false
-  pub inside : outside bytes ≡ false
+pub record Readable (bytes : List ℕ) : Type 0 where
+  pub whole : bad-length (length bytes) ≡ false
+  pub inside : off-board bytes ≡ false
 
 -- a sound board, and buffers of just its size
 pub record Ready (picture : List ℕ) (distances sites scratch : ℕ) : Type 0 where

@@ -1,6 +1,6 @@
 // The bench file: the tests of its bytes in their order, the map of the picture that its records bore, and the three
 // numbers of its answer.
-use bench_records::SIDE;
+use bench_records::BOARD_SIDE;
 use bench_records::bad_length;
 use bench_records::bore;
 use bench_records::off_board;
@@ -11,12 +11,12 @@ ghost use Prim.Native.Nat.{_<_};
 ghost use lib.ListN.{length};
 ghost use Rattle.rules.specs.Answers.{bench-number, bench-sites, bench-farthest, bench-cell};
 ghost use Rattle.rules.specs.Calls.{BenchCall};
-ghost use Rattle.bench_file.specs.Reading.{Passed, Ready, Peak};
+ghost use Rattle.bench_file.specs.Reading.{Readable, Ready, Peak};
 
 // The cells of the board.
-const CELLS: usize = SIDE * SIDE;
+const CELLS: usize = BOARD_SIDE * BOARD_SIDE;
 // The words of scratch that its map asks for: "at least W·H + 2W + 2H".
-const SCRATCH: usize = CELLS + 2 * SIDE + 2 * SIDE;
+const SCRATCH: usize = CELLS + 2 * BOARD_SIDE + 2 * BOARD_SIDE;
 
 // The first of the greatest words.
 fn peak(words: &[u32]) -> usize
@@ -42,12 +42,12 @@ fn measure_on(
     sites: &mut [u32],
     scratch: &mut [u32],
 ) -> BenchAnswer
-    requires { ⌜ Passed (now file)
+    requires { ⌜ Readable (now file)
         × Ready (now picture) (length (now distances)) (length (now sites)) (length (now scratch)) ⌝ }
     ensures { λ r. ⌜ BenchCall (now (file .entry)) (bench-number r) (bench-sites r) (bench-farthest r) (bench-cell r) ⌝ }
 {
     let bores = bore(file, picture);
-    if entry::boreless(picture) {
+    if board_tests::no_bore(picture) {
         return BenchAnswer::Refused(6);
     }
     // its tests pass on such a picture, so it answers 0
@@ -74,7 +74,7 @@ fn measure_on(
 
 // The same in memory of its own.
 fn measure(file: &[u8]) -> BenchAnswer
-    requires { ⌜ Passed (now file) ⌝ }
+    requires { ⌜ Readable (now file) ⌝ }
     ensures { λ r. ⌜ BenchCall (now (file .entry)) (bench-number r) (bench-sites r) (bench-farthest r) (bench-cell r) ⌝ }
 {
     let mut picture = [0u8; CELLS];

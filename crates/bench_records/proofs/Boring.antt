@@ -8,21 +8,21 @@ use native.Mathlib.Omega.{arith}
 use lib.ListN.{length, drop, length-drop, length-set}
 use Rattle.rules.specs.Limits.{bench-side}
 use Rattle.rules.specs.Board.{cell}
-use Rattle.rules.specs.BenchFile.{bore-all, outside, bores}
+use Rattle.rules.specs.BenchFile.{bore-all, off-board, bores}
 use Rattle.bench_records.specs.Boring.{BoredCell, BoredBy}
 use Rattle.bench_records.proofs.FileRecords.{coordinate-at, record-inside, bore-record, bore-end}
 
 -- the records before the place i are bored
 pub record Boring (bytes before now : List ℕ) (fresh i : ℕ) : Type 0 where
   pub within : i ≤ length bytes
-  pub inside : outside (drop i bytes) ≡ false
+  pub inside : off-board (drop i bytes) ≡ false
   pub as-long : length now ≡ bench-side * bench-side
   pub left : bore-all (drop i bytes) now ≡ bore-all bytes before
   pub counted : fresh + bores before ≡ bores now
 
 module _ {bytes before : List ℕ} where
   -- none yet
-  pub boring-none : outside bytes ≡ false → length before ≡ bench-side * bench-side → Boring bytes before before 0 0
+  pub boring-none : off-board bytes ≡ false → length before ≡ bench-side * bench-side → Boring bytes before before 0 0
   boring-none inside long =
       record { within = omega arith; inside = inside; as-long = long; left = refl; counted = omega arith }
 

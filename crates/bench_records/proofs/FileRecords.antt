@@ -11,7 +11,7 @@ use lib.Seq.{getD-drop, drop-drop}
 use borrow.Author.Tests.{leb-false, lt-leb}
 use Rattle.rules.specs.Limits.{bench-side}
 use Rattle.rules.specs.Board.{cell}
-use Rattle.rules.specs.BenchFile.{u16-of, bore-all, outside}
+use Rattle.rules.specs.BenchFile.{u16-of, bore-all, off-board}
 use Rattle.rules.proofs.Refusals.{or-first, or-second}
 
 -- the coordinate at the place i
@@ -27,12 +27,12 @@ four (a ∷ b ∷ c ∷ []) h = absurd (omega arith)
 four (a ∷ b ∷ c ∷ d ∷ rest) h = refl
 
 -- fewer than 4 bytes hold no coordinate
-pub outside-end : (bytes : List ℕ) → length bytes < 4 → outside bytes ≡ false
-outside-end [] h = refl
-outside-end (a ∷ []) h = refl
-outside-end (a ∷ b ∷ []) h = refl
-outside-end (a ∷ b ∷ c ∷ []) h = refl
-outside-end (a ∷ b ∷ c ∷ d ∷ rest) h = absurd (omega arith)
+pub off-board-end : (bytes : List ℕ) → length bytes < 4 → off-board bytes ≡ false
+off-board-end [] h = refl
+off-board-end (a ∷ []) h = refl
+off-board-end (a ∷ b ∷ []) h = refl
+off-board-end (a ∷ b ∷ c ∷ []) h = refl
+off-board-end (a ∷ b ∷ c ∷ d ∷ rest) h = absurd (omega arith)
 
 -- and bore nothing
 pub bore-end : (bytes picture : List ℕ) → length bytes < 4 → bore-all bytes picture ≡ picture
@@ -62,18 +62,18 @@ module _ (bytes : List ℕ) (i : ℕ) (more : 4 ≤ length bytes - i) where
       )
 
   -- 11 holds of what is left at i by this record or by a later one
-  outside-record : outside (drop i bytes)
-      ≡ (leb bench-side (coordinate-at bytes i) || leb bench-side (coordinate-at bytes (i + 2)) || outside (drop (i + 4) bytes))
-  outside-record = ap outside record-at
+  off-board-record : off-board (drop i bytes)
+      ≡ (leb bench-side (coordinate-at bytes i) || leb bench-side (coordinate-at bytes (i + 2)) || off-board (drop (i + 4) bytes))
+  off-board-record = ap off-board record-at
 
   -- where it does not hold, this record is on the board, and it does not hold of what is left after it
-  pub record-inside : outside (drop i bytes) ≡ false
+  pub record-inside : off-board (drop i bytes) ≡ false
       → (coordinate-at bytes i < bench-side) × (coordinate-at bytes (i + 2) < bench-side)
-      × (outside (drop (i + 4) bytes) ≡ false)
+      × (off-board (drop (i + 4) bytes) ≡ false)
   record-inside e =
       let column : Bool = leb bench-side (coordinate-at bytes i) in
       let row : Bool = leb bench-side (coordinate-at bytes (i + 2)) in
-      let all : (column || row || outside (drop (i + 4) bytes)) ≡ false = sym outside-record ∙ e in
+      let all : (column || row || off-board (drop (i + 4) bytes)) ≡ false = sym off-board-record ∙ e in
       let here : (column || row) ≡ false = or-first (column || row) _ all in (
         leb-false bench-side _ (or-first column row here),
         leb-false bench-side _ (or-second column row here),
@@ -82,8 +82,8 @@ module _ (bytes : List ℕ) (i : ℕ) (more : 4 ≤ length bytes - i) where
 
   -- where this record is on the board, it holds if it does of what is left after it
   pub record-passes : coordinate-at bytes i < bench-side → coordinate-at bytes (i + 2) < bench-side
-      → outside (drop i bytes) ≡ outside (drop (i + 4) bytes)
-  record-passes column row = outside-record ∙ rw (lt-leb bench-side _ column, lt-leb bench-side _ row)
+      → off-board (drop i bytes) ≡ off-board (drop (i + 4) bytes)
+  record-passes column row = off-board-record ∙ rw (lt-leb bench-side _ column, lt-leb bench-side _ row)
 
   -- what is left at i bores this record's cell first
   pub bore-record : (picture : List ℕ) → bore-all (drop i bytes) picture

@@ -13,10 +13,10 @@ use Rattle.rules.specs.Limits.{side-limit, weight-limit}
 use Rattle.rules.specs.Measures.{Weights, chamfer}
 use Rattle.rules.specs.Accepted.{Somewhere}
 use Rattle.rules.proofs.Table.{Walk, start, least}
-use Rattle.neighbours.specs.declared.Board.{Board}
-use Rattle.neighbours.specs.Neighbours.{far, Ruled, Words, On, word}
-use Rattle.chamfer.specs.Scans.{Bore, Held, Reached, first-word, Begun}
-use Rattle.neighbours.proofs.Cells.{has-word}
+use Rattle.chamfer_turn.specs.declared.Board.{Board}
+use Rattle.chamfer_turn.specs.Neighbours.{far, Ruled, Words, On, word}
+use Rattle.chamfer.specs.Scans.{Bore, Held, Bounded, first-word, Begun}
+use Rattle.chamfer_turn.proofs.Cells.{has-word}
 
 -- no closed form within the sides reaches `far`
 below-far : {d1 d2 dx dy : ℕ} → Weights d1 d2 → dx ≤ side-limit → dy ≤ side-limit → chamfer d1 d2 dx dy ≤ far
@@ -88,7 +88,7 @@ module _ {b : Board} {picture words : List ℕ} (B : Begun picture words) (one-e
         })
 
     -- what has been reached before the scans
-    pub begun : Reached b picture words 0
+    pub begun : Bounded b picture words 0
     begun =
         record {
           never-less = held;

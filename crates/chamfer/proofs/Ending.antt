@@ -11,13 +11,13 @@ use Rattle.rules.specs.Board.{cell}
 use Rattle.rules.specs.Measures.{chamfer-kind}
 use Rattle.rules.specs.Tie.{MapWord}
 use Rattle.rules.proofs.Board.{cell-in}
-use Rattle.neighbours.specs.declared.Board.{Board}
-use Rattle.neighbours.specs.Neighbours.{On, word}
-use Rattle.chamfer.specs.Scans.{Reached, Scanned}
+use Rattle.chamfer_turn.specs.declared.Board.{Board}
+use Rattle.chamfer_turn.specs.Neighbours.{On, word}
+use Rattle.chamfer.specs.Scans.{Bounded, Scanned}
 
 -- what both scans have reached is the least of the closed form
 map-word : {b : Board} {picture words : List ℕ} {x y : ℕ}
-    → Reached b picture words 2
+    → Bounded b picture words 2
     → On b x y
     → MapWord chamfer-kind (b .d1) (b .d2) (b .w) (b .h) picture x y (word b words x y)
 map-word {x} {y} R on =
@@ -35,7 +35,7 @@ map-word {x} {y} R on =
 
 -- the map stands in the first words of the buffer
 pub scanned : (b : Board) {picture words : List ℕ} (before : List ℕ)
-    → Reached b picture words 2
+    → Bounded b picture words 2
     → length words ≡ b .w * b .h
     → b .w * b .h ≤ length before
     → Scanned (b .w) (b .h) (b .d1) (b .d2) picture before (words ++ drop (b .w * b .h) before)

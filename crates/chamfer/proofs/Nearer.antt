@@ -1,6 +1,6 @@
 -- One step towards a bore. Each scan brings the word of a bore to more cells. To such a cell the word had come before
--- the scan, or one of the scan's four entries leads from it to a cell that the scan did earlier, to which the word
--- comes too, and from which the closed form is less by just the weight of that entry: a slanted step where both
+-- the scan, or one of the scan's four steps leads from it to a cell that the scan did earlier, to which the word
+-- comes too, and from which the closed form is less by just the weight of that step: a slanted step where both
 -- differences are above 0, else a straight step in the direction of the larger one. Assumes nothing.
 use mathlib.Core.Path.{_≡_, refl, ap}
 use mathlib.Core.Logic.{_⊎_, inl, inr}
@@ -11,10 +11,10 @@ use lib.IntN.{pos, _+ℤ_}
 use Rattle.rules.specs.Board.{cell, away}
 use Rattle.rules.specs.Measures.{chamfer}
 use Rattle.rules.specs.Table.{weight}
-use Rattle.neighbours.specs.declared.Board.{Board}
-use Rattle.neighbours.specs.Neighbours.{On, printed, Neighbour}
+use Rattle.chamfer_turn.specs.declared.Board.{Board}
+use Rattle.chamfer_turn.specs.Neighbours.{On, printed, Neighbour}
 use Rattle.chamfer.specs.Scans.{apart, Come}
-use Rattle.neighbours.proofs.Moves.{one-back, no-step}
+use Rattle.chamfer_turn.proofs.Moves.{one-back, no-step}
 
 -- a slanted step: both differences grow
 slanted : (d1 d2 dx dy : ℕ) → chamfer d1 d2 (suc dx) (suc dy) ≡ chamfer d1 d2 dx dy + d2
@@ -51,7 +51,7 @@ abbrev pub Before : ℕ → ℕ → ℕ → Type 0
 Before zero c c′ = c < c′
 Before (suc n) c c′ = c′ < c
 
--- A step of the scan from (x, y) towards the bore (i, j): by one of its entries, to a cell (x′, y′) that it did earlier
+-- A step of the scan from (x, y) towards the bore (i, j): by one of its steps, to a cell (x′, y′) that it did earlier
 -- and to which the bore's word comes too, with the closed form less by the step's weight.
 pub record Nearer (b : Board) (scan i j x y : ℕ) : Type 0 where
   pub k : ℕ

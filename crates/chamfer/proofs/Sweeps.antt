@@ -11,24 +11,24 @@ use Rattle.rules.specs.Board.{cell}
 use Rattle.rules.specs.Measures.{Weights}
 use Rattle.rules.specs.Table.{step, none}
 use Rattle.rules.proofs.Board.{cell-in}
-use Rattle.rules.proofs.Table.{entry, never-too-small}
-use Rattle.neighbours.specs.declared.Board.{Board}
-use Rattle.neighbours.specs.Neighbours.{Words, On, Offered, Lowest, Turned}
-use Rattle.chamfer.specs.Scans.{forward-scan, backward-scan, Bore, apart, Held, Come, Reached, Scan}
-use Rattle.chamfer.specs.Scans.{Done, Sweep, Swept}
-use Rattle.neighbours.proofs.Cells.{each-word, words-after}
+use Rattle.rules.proofs.Table.{step-listed, never-too-small}
+use Rattle.chamfer_turn.specs.declared.Board.{Board}
+use Rattle.chamfer_turn.specs.Neighbours.{Words, On, Offered, Lowest, CellTurned}
+use Rattle.chamfer.specs.Scans.{forward-scan, backward-scan, Bore, apart, Held, Come, Bounded, Scan}
+use Rattle.chamfer.specs.Scans.{Done, Sweep, Advanced}
+use Rattle.chamfer_turn.proofs.Cells.{each-word, words-after}
 use Rattle.chamfer.proofs.Nearer.{Before, nearer}
 
 -- a bore that holds a neighbour holds the cell through it
 through : {b : Board} {picture words : List ℕ} {x y from to v scans : ℕ}
     → Weights (b .d1) (b .d2)
     → to ≤ 8
-    → Reached b picture words scans
+    → Bounded b picture words scans
     → Offered b words x y from to v
     → Held b picture x y v
 through {b} c to-in R o =
     let held = R .never-less (o .x′) (o .y′) (o .neighbour .on-board) in
-    let listed = entry (o .k) (step none none 0) (omega (arith, o .entry-to)) in
+    let listed = step-listed (o .k) (step none none 0) (omega (arith, o .step-to)) in
     let near = never-too-small (held .i) (held .j) c listed (o .neighbour .leads) in
     record { i = held .i; j = held .j; bore = held .bore; no-farther = omega (arith, near .0, o .offer-is) }
 
@@ -82,8 +82,8 @@ module _ {b : Board} {words : List ℕ} {scan t x y v : ℕ} (here : On b x y) (
 
     -- whatever the picture
     one-turn : {t₀ : ℕ} {before : List ℕ}
-        → Swept b scan t₀ t before words
-        → Swept b scan t₀ t′ before (set words (cell (b .w) x y) v)
+        → Advanced b scan t₀ t before words
+        → Advanced b scan t₀ t′ before (set words (cell (b .w) x y) v)
     one-turn S =
         record {
           words = words-after (S .words) here (omega (arith, L .no-more, S .words .most (cell (b .w) x y)));
@@ -92,34 +92,34 @@ module _ {b : Board} {words : List ℕ} {scan t x y v : ℕ} (here : On b x y) (
 
 module _ {b : Board} {t₀ : ℕ} {before words after : List ℕ} {x y : ℕ} (c : Weights (b .d1) (b .d2)) where
   -- a turn of the forward scan, from the left
-  pub forward-turn : Swept b forward-scan t₀ (cell (b .w) x y) before words
+  pub forward-turn : Advanced b forward-scan t₀ (cell (b .w) x y) before words
       → On b x y
-      → Turned b x y 0 4 words after
-      → Swept b forward-scan t₀ (cell (b .w) (x + 1) y) before after
+      → CellTurned b x y 0 4 words after
+      → Advanced b forward-scan t₀ (cell (b .w) (x + 1) y) before after
   forward-turn S here T =
       rw (T .stored)
       (one-turn here (omega arith) (T .lowest) (λ n earlier. earlier) c (λ n done other. omega arith) S)
 
   -- a turn of the backward scan, from the right: the cell before column x is next
   pub backward-turn : 0 < x
-      → Swept b backward-scan t₀ (cell (b .w) x y) before words
+      → Advanced b backward-scan t₀ (cell (b .w) x y) before words
       → On b (x - 1) y
-      → Turned b (x - 1) y 4 8 words after
-      → Swept b backward-scan t₀ (cell (b .w) (x - 1) y) before after
+      → CellTurned b (x - 1) y 4 8 words after
+      → Advanced b backward-scan t₀ (cell (b .w) (x - 1) y) before after
   backward-turn l S here T =
       rw (T .stored)
       (one-turn here (omega arith) (T .lowest) (λ n earlier. omega arith) c (λ n done other. omega arith) S)
 
 -- a scan that has not moved
-pub stay : {b : Board} {scan t : ℕ} {words : List ℕ} → Words b words → Swept b scan t t words words
+pub stay : {b : Board} {scan t : ℕ} {words : List ℕ} → Words b words → Advanced b scan t t words words
 stay W = record { words = W; onward = λ picture s. s }
 
 -- a scan goes on from where it stands
 pub and-then : {b : Board} {scan t t′ u u′ : ℕ} {before between after : List ℕ}
-    → Swept b scan t t′ before between
+    → Advanced b scan t t′ before between
     → t′ ≡ u
-    → Swept b scan u u′ between after
-    → Swept b scan t u′ before after
+    → Advanced b scan u u′ between after
+    → Advanced b scan t u′ before after
 and-then {b} {scan} S e T =
     record {
       words = T .words;
@@ -130,15 +130,15 @@ and-then {b} {scan} S e T =
 whole : {b : Board} {scan t t′ : ℕ} {before after : List ℕ}
     → ((x y : ℕ) → On b x y → Done scan t (cell (b .w) x y) → ⊥)
     → ((x y : ℕ) → On b x y → Done scan t′ (cell (b .w) x y))
-    → Swept b scan t t′ before after
+    → Advanced b scan t t′ before after
     → Scan b scan before after
 whole {b} {scan} {t} {t′} {before} {after} none all S =
     record { words = S .words; reaches = λ picture R. over picture (S .onward picture (started picture R)) }
   where
-    started : (picture : List ℕ) → Reached b picture before scan → Sweep b picture before scan t
+    started : (picture : List ℕ) → Bounded b picture before scan → Sweep b picture before scan t
     started picture R = record { so-far = R; come = λ i j bore x y on c d. absurd (none x y on d) }
 
-    over : (picture : List ℕ) → Sweep b picture after scan t′ → Reached b picture after (suc scan)
+    over : (picture : List ℕ) → Sweep b picture after scan t′ → Bounded b picture after (suc scan)
     over picture T =
         record {
           never-less = T .so-far .never-less;
@@ -147,7 +147,7 @@ whole {b} {scan} {t} {t′} {before} {after} none all S =
 
 module _ {b : Board} {before after : List ℕ} {y : ℕ} where
   -- the forward scan is over when it stands below the last row
-  pub forward-over : Swept b forward-scan (cell (b .w) 0 0) (cell (b .w) 0 y) before after
+  pub forward-over : Advanced b forward-scan (cell (b .w) 0 0) (cell (b .w) 0 y) before after
       → y ≡ b .h
       → Scan b forward-scan before after
   forward-over S e =
@@ -155,7 +155,7 @@ module _ {b : Board} {before after : List ℕ} {y : ℕ} where
       (λ x′ y′ on. omega (arith, cell-in {w = b .w} {h = b .h} (on .column-in) (on .row-in), ap (λ n. n * b .w) e)) S
 
   -- the backward scan, which begins there, is over when it stands at the first row
-  pub backward-over : Swept b backward-scan (cell (b .w) 0 (b .h)) (cell (b .w) 0 y) before after
+  pub backward-over : Advanced b backward-scan (cell (b .w) 0 (b .h)) (cell (b .w) 0 y) before after
       → y ≡ 0
       → Scan b backward-scan before after
   backward-over S e =

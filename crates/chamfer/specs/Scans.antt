@@ -8,8 +8,8 @@ use lib.ListN.{length, getD, drop}
 use Rattle.rules.specs.Board.{cell, Bored}
 use Rattle.rules.specs.Measures.{chamfer-kind}
 use Rattle.rules.specs.Tie.{bore-word, MapWord}
-use Rattle.neighbours.specs.declared.Board.{Board}
-use Rattle.neighbours.specs.Neighbours.{far, Words, On, word}
+use Rattle.chamfer_turn.specs.declared.Board.{Board}
+use Rattle.chamfer_turn.specs.Neighbours.{far, Words, On, word}
 
 -- the cell (i, j) of the board is bored
 pub record Bore (b : Board) (picture : List ℕ) (i j : ℕ) : Type 0 where
@@ -43,7 +43,7 @@ Come (suc (suc n)) i j x y = Unit {0}
 
 -- the words after so many scans: none below the least closed form to a bore, and none above the closed form to a bore
 -- whose word has come
-pub record Reached (b : Board) (picture words : List ℕ) (scans : ℕ) : Type 0 where
+pub record Bounded (b : Board) (picture words : List ℕ) (scans : ℕ) : Type 0 where
   pub never-less : (x y : ℕ) → On b x y → Held b picture x y (word b words x y)
   pub never-more : (i j : ℕ) → Bore b picture i j → (x y : ℕ) → On b x y → Come scans i j x y
       → word b words x y ≤ apart b x y i j
@@ -51,7 +51,7 @@ pub record Reached (b : Board) (picture words : List ℕ) (scans : ℕ) : Type 0
 -- a scan is over: what was reached before it is reached, and what the scan brings
 pub record Scan (b : Board) (scan : ℕ) (before after : List ℕ) : Type 0 where
   pub words : Words b after
-  pub reaches : (picture : List ℕ) → Reached b picture before scan → Reached b picture after (suc scan)
+  pub reaches : (picture : List ℕ) → Bounded b picture before scan → Bounded b picture after (suc scan)
 
 -- the cells that a scan has done when it stands at number t: those before t, or those from t on if it goes backward
 abbrev pub Done : ℕ → ℕ → ℕ → Type 0
@@ -60,13 +60,13 @@ Done (suc n) t c = t ≤ c
 
 -- a scan stands at number t: to the cells that it has done, the words that it brings have come
 pub record Sweep (b : Board) (picture words : List ℕ) (scan t : ℕ) : Type 0 where
-  pub so-far : Reached b picture words scan
+  pub so-far : Bounded b picture words scan
   pub come : (i j : ℕ) → Bore b picture i j → (x y : ℕ) → On b x y → Come (suc scan) i j x y
       → Done scan t (cell (b .w) x y)
       → word b words x y ≤ apart b x y i j
 
 -- a scan has gone from number t to number t′, whatever the picture
-pub record Swept (b : Board) (scan t t′ : ℕ) (before after : List ℕ) : Type 0 where
+pub record Advanced (b : Board) (scan t t′ : ℕ) (before after : List ℕ) : Type 0 where
   pub words : Words b after
   pub onward : (picture : List ℕ) → Sweep b picture before scan t → Sweep b picture after scan t′
 

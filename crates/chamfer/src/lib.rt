@@ -1,7 +1,7 @@
 // Kind 3: the two scans of document 003, which make the map of least chamfer distances in place.
 mod scans;
 
-use neighbours::Board;
+use chamfer_turn::Board;
 use scans::map_words;
 ghost use Prim.Native.Nat.{_*_, _≤_};
 ghost use mathlib.Core.Path.{_≡_};

@@ -1,13 +1,13 @@
 // The two scans, row by row, over one word for each cell of the board.
-use neighbours::Board;
-use neighbours::relax;
+use chamfer_turn::Board;
+use chamfer_turn::relax;
 ghost use Prim.Native.Nat.{_+_, _*_, _<_};
 ghost use mathlib.Core.Path.{_≡_};
 ghost use lib.ListN.{length};
 ghost use Rattle.rules.specs.Board.{cell, Bored};
 ghost use Rattle.rules.specs.Accepted.{Somewhere};
-ghost use Rattle.neighbours.specs.Neighbours.{Ruled, Words};
-ghost use Rattle.chamfer.specs.Scans.{Reached, Scan, Swept, first-word, Begun, forward-scan, backward-scan};
+ghost use Rattle.chamfer_turn.specs.Neighbours.{Ruled, Words};
+ghost use Rattle.chamfer.specs.Scans.{Bounded, Scan, Advanced, first-word, Begun, forward-scan, backward-scan};
 
 // "b(i,j) = ∞": a word above every true one, to which a weight can be added.
 const FAR: u32 = 1_073_741_824;
@@ -32,7 +32,7 @@ fn begin(picture: &[u8], words: &mut [u32])
 // One row of the forward scan, from the left.
 fn forward_row(b: Board, words: &mut [u32], y: usize)
     requires { ⌜ Ruled b × Words b (now words) × (y < b .h) ⌝ }
-    ensures { λ _. ⌜ Swept b forward-scan (cell (b .w) 0 y) (cell (b .w) 0 (y + 1))
+    ensures { λ _. ⌜ Advanced b forward-scan (cell (b .w) 0 y) (cell (b .w) 0 (y + 1))
         (now (words .entry)) (now (words .exit)) ⌝ }
 {
     let w = b.w;
@@ -55,7 +55,7 @@ fn forward(b: Board, words: &mut [u32])
 // One row of the backward scan, from the right.
 fn backward_row(b: Board, words: &mut [u32], y: usize)
     requires { ⌜ Ruled b × Words b (now words) × (y < b .h) ⌝ }
-    ensures { λ _. ⌜ Swept b backward-scan (cell (b .w) 0 (y + 1)) (cell (b .w) 0 y)
+    ensures { λ _. ⌜ Advanced b backward-scan (cell (b .w) 0 (y + 1)) (cell (b .w) 0 y)
         (now (words .entry)) (now (words .exit)) ⌝ }
 {
     let mut x = b.w;
@@ -81,7 +81,7 @@ fn backward(b: Board, words: &mut [u32])
 pub fn map_words(b: Board, picture: &[u8], words: &mut [u32])
     requires { ⌜ Ruled b × (length (now picture) ≡ b .w * b .h) × (length (now words) ≡ b .w * b .h)
         × Somewhere (b .w) (b .h) (Bored (b .w) (now picture)) ⌝ }
-    ensures { λ _. ⌜ Reached b (now (picture .entry)) (now (words .exit)) 2 ⌝ }
+    ensures { λ _. ⌜ Bounded b (now (picture .entry)) (now (words .exit)) 2 ⌝ }
 {
     begin(picture, words);
     forward(b, words);

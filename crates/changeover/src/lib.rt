@@ -1,11 +1,11 @@
 // The public changeover: the tests of its columns and values, then the place up to which the left of two curves of kind 0
 // is the lower. The engine along a line goes by the same crossing and never needs one below zero; here that is an answer
 // too.
-use gauge::crossing::core;
+use gauge::crossing::last_euclid;
 use gauge::square;
-use rules::COLUMN;
+use rules::COLUMN_LIMIT;
 use rules::ChangeoverAnswer;
-use rules::VALUE;
+use rules::VALUE_LIMIT;
 ghost use Rattle.rules.specs.Answers.{changeover-number, changeover-at};
 ghost use Rattle.rules.specs.Calls.{ChangeoverCall};
 
@@ -17,19 +17,19 @@ pub fn changeover(i: u32, u: u32, a: u32, b: u32) -> ChangeoverAnswer
     if u <= i {
         return ChangeoverAnswer::Refused;
     }
-    if COLUMN < u {
+    if COLUMN_LIMIT < u {
         return ChangeoverAnswer::Refused;
     }
-    if VALUE < a {
+    if VALUE_LIMIT < a {
         return ChangeoverAnswer::Refused;
     }
-    if VALUE < b {
+    if VALUE_LIMIT < b {
         return ChangeoverAnswer::Refused;
     }
     let top = square(u as usize) + b as u64;
     let low = square(i as usize) + a as u64;
     if low <= top {
-        let p = core(i as usize, u as usize, a as u64, b as u64);
+        let p = last_euclid(i as usize, u as usize, a as u64, b as u64);
         return ChangeoverAnswer::At(p as i32);
     }
     let d = 2 * (u - i) as u64;

@@ -9,11 +9,11 @@ use lib.ListN.{getD, drop, length-drop}
 use lib.Seq.{ext-getD, getD-drop}
 use Rattle.rules.proofs.Board.{cell-in}
 use Rattle.columns.specs.Bands.{Swept}
-use Rattle.columns.specs.Rows.{Rows, Lowered, Raised}
+use Rattle.columns.specs.Rows.{BandRows, Lowered, Raised}
 
 -- down, then up
-pub swept : {w h a b : ℕ} {picture before words after : List ℕ} → Rows w a b 0 h (Lowered w picture) before words →
-    Rows w a b 0 h (Raised w h words) words after → Swept w h a b picture before after
+pub swept : {w h a b : ℕ} {picture before words after : List ℕ} → BandRows w a b 0 h (Lowered w picture) before words →
+    BandRows w a b 0 h (Raised w h words) words after → Swept w h a b picture before after
 swept {w} {h} {picture = picture} down up =
     record {
       words = λ x y l m n.

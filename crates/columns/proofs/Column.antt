@@ -12,7 +12,7 @@ use native.Mathlib.Omega.{arith}
 use Rattle.rules.specs.Limits.{mark}
 use Rattle.rules.specs.Board.{away}
 use Rattle.rules.specs.Columns.{Nearest, ColumnWord}
-use Rattle.columns.specs.Words.{Last, Above, Passed, Nearer}
+use Rattle.columns.specs.Words.{LastAbove, Above, Carried, Nearer}
 
 module _ (byte : ℕ → ℕ) where
   -- the rows whose byte says that they are bored
@@ -28,7 +28,7 @@ module _ (byte : ℕ → ℕ) where
       }
 
   -- the top row, with nothing above it
-  pub top : {word : ℕ} → Passed (byte 0) 0 mark word → Above Bore 0 word
+  pub top : {word : ℕ} → Carried (byte 0) 0 mark word → Above Bore 0 word
   top p =
       by-cases (ℕ-discrete (byte 0) 1)
       (λ (f : Bore 0). rw (p .bored f) (itself (omega arith) f))
@@ -39,7 +39,7 @@ module _ (byte : ℕ → ℕ) where
       }))
 
   -- a step down, to row z from the row y above it
-  pub step-down : {y z above word : ℕ} → z ≡ y + 1 → z < mark → Above Bore y above → Passed (byte z) z above word →
+  pub step-down : {y z above word : ℕ} → z ≡ y + 1 → z < mark → Above Bore y above → Carried (byte z) z above word →
       Above Bore z word
   step-down {y} {z} {above} next l a p =
       by-cases (ℕ-discrete (byte z) 1)
@@ -65,7 +65,7 @@ module _ (byte : ℕ → ℕ) where
 
 module _ {Feature : ℕ → Type 0} {h y : ℕ} where
   -- the last row at or above y is the nearest, if no feature below y is nearer
-  keeps : {j : ℕ} → y < h → Last Feature y j →
+  keeps : {j : ℕ} → y < h → LastAbove Feature y j →
       ((j′ : ℕ) → y < j′ → j′ < h → Feature j′ → y + y ≤ j + j′) → Nearest h Feature (away y) j
   unfolding away
   keeps {j} l q far =
@@ -137,7 +137,7 @@ module _ {Feature : ℕ → Type 0} {h y z above below : ℕ} (next : z ≡ y + 
   -- Each of the two names a row, on its side of y.
   module _ (m : y < below) (o : above ≤ y) where
     -- the last feature at or above y
-    over : Last Feature y above
+    over : LastAbove Feature y above
     over = a .named (λ e. omega arith)
 
     -- the nearest feature of the row below

@@ -9,16 +9,16 @@ use native.Mathlib.Omega.{arith}
 use lib.ListN.{length, getD, set}
 use Rattle.rules.specs.Limits.{mark}
 use Rattle.rules.specs.Board.{cell}
-use Rattle.columns.specs.Words.{Passed}
+use Rattle.columns.specs.Words.{Carried}
 use Rattle.columns.specs.Bands.{Band}
-use Rattle.columns.specs.Rows.{Row, Rows, Topped, Stepped, Lowered}
+use Rattle.columns.specs.Rows.{BandRow, BandRows, Topped, Stepped, Lowered}
 use Rattle.columns.proofs.Column.{top, step-down}
 use Rattle.columns.proofs.Rows.{row-inside, Filling, unfilled, filling-more, rows-none, rows-more}
 
 -- a cell of row y is filled from the row over it
 pub stepped : (picture : List ℕ) {w start y a b x v : ℕ} {before words : List ℕ} → b ≤ w → w ≤ start →
     Filling start a b (Stepped (start - w) start y picture before) before words x → x < b → start + x < length words →
-    Passed (getD picture (start + x) 0) y (getD words (start - w + x) 0) v →
+    Carried (getD picture (start + x) 0) y (getD words (start - w + x) 0) v →
     Filling start a b (Stepped (start - w) start y picture before) before (set words (start + x) v) (x + 1)
 stepped picture {w} {start} {x = x} inside under s l fits p =
     filling-more s l refl fits (rw (unfilled s (start - w + x) (λ x′ m e. omega arith)) at p)
@@ -30,29 +30,29 @@ pub record Lowering (w h a b : ℕ) (picture topped words : List ℕ) (start y :
   pub to : y ≤ h
   pub start-is : start ≡ y * w
   pub as-long : length words ≡ length topped
-  pub done : (before : List ℕ) → Row 0 a b (Topped picture) before topped →
-      Rows w a b 0 y (Lowered w picture) before words
+  pub done : (before : List ℕ) → BandRow 0 a b (Topped picture) before topped →
+      BandRows w a b 0 y (Lowered w picture) before words
 
 -- the byte of column x in row j
 abbrev byte : ℕ → List ℕ → ℕ → ℕ → ℕ
 byte w picture x j = getD picture (cell w x j) 0
 
 -- the top row is the first of the rows
-top-done : (picture : List ℕ) {w a b : ℕ} {before words : List ℕ} → b ≤ w → Row 0 a b (Topped picture) before words →
-    Rows w a b 0 1 (Lowered w picture) before words
+top-done : (picture : List ℕ) {w a b : ℕ} {before words : List ℕ} → b ≤ w → BandRow 0 a b (Topped picture) before words →
+    BandRows w a b 0 1 (Lowered w picture) before words
 top-done picture {w} {a} {b} {before} {words} inside row =
     let first : 0 ≡ 0 * w = omega arith in
     rows-more {c = 0} {d = 0} inside (omega arith) rows-none
-    (subst (λ s. Row s a b (Topped picture) before words) first row)
+    (subst (λ s. BandRow s a b (Topped picture) before words) first row)
     (λ x word l m p.
     let e : x ≡ cell w x 0 = omega arith in
-    top (byte w picture x) (subst (λ k. Passed (getD picture k 0) 0 mark word) e p))
+    top (byte w picture x) (subst (λ k. Carried (getD picture k 0) 0 mark word) e p))
 
 -- row y is one row more
 row-done : (picture : List ℕ) {w h a b y start : ℕ} {before words after : List ℕ} → Band w h a b → 1 ≤ y → y < h →
-    start ≡ y * w → Rows w a b 0 y (Lowered w picture) before words →
-    Row start a b (Stepped (start - w) start y picture words) words after →
-    Rows w a b 0 (y + 1) (Lowered w picture) before after
+    start ≡ y * w → BandRows w a b 0 y (Lowered w picture) before words →
+    BandRow start a b (Stepped (start - w) start y picture words) words after →
+    BandRows w a b 0 (y + 1) (Lowered w picture) before after
 row-done picture {w} {y = y} {start} band from l is rows row =
     let next : y ≡ y - 1 + 1 = omega arith in
     let over : start - w ≡ (y - 1) * w = omega (arith, ap (λ k. k * w) next) in
@@ -87,7 +87,7 @@ module _ {w h a b : ℕ} (band : Band w h a b) {picture topped : List ℕ} where
 
     -- row y is done
     pub lowering-more : {after : List ℕ} → start < w * h →
-        Row start a b (Stepped (start - w) start y picture words) words after →
+        BandRow start a b (Stepped (start - w) start y picture words) words after →
         Lowering w h a b picture topped after (start + w) (y + 1)
     lowering-more l row =
         let inside : y < h = two-rows l .0 in
@@ -100,9 +100,9 @@ module _ {w h a b : ℕ} (band : Band w h a b) {picture topped : List ℕ} where
         }
 
     -- every row is done
-    pub lowering-end : {before : List ℕ} → w * h ≤ start → Row 0 a b (Topped picture) before topped →
-        Rows w a b 0 h (Lowered w picture) before words
+    pub lowering-end : {before : List ℕ} → w * h ≤ start → BandRow 0 a b (Topped picture) before topped →
+        BandRows w a b 0 h (Lowered w picture) before words
     lowering-end {before} l row =
         let m : h * w ≤ y * w = omega (arith, s .start-is, mul-comm w h) in
         let e : y ≡ h = omega (arith, s .to, le-of-mul-le-mul-right m (band .sides .width-from)) in
-        subst (λ d. Rows w a b 0 d (Lowered w picture) before words) e (s .done before row)
+        subst (λ d. BandRows w a b 0 d (Lowered w picture) before words) e (s .done before row)

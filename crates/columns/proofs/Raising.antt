@@ -12,7 +12,7 @@ use Rattle.rules.specs.Board.{cell}
 use Rattle.rules.proofs.Board.{cell-inj}
 use Rattle.columns.specs.Words.{Nearer}
 use Rattle.columns.specs.Bands.{Band}
-use Rattle.columns.specs.Rows.{Row, Rows, Lifted, Raised}
+use Rattle.columns.specs.Rows.{BandRow, BandRows, Lifted, Raised}
 use Rattle.columns.proofs.Column.{bottom, step-up}
 use Rattle.columns.proofs.Rows.{row-inside, Filling, unfilled, filling-more, rows-more}
 
@@ -29,7 +29,7 @@ lifted {w} {start} {x = x} inside s l fits n =
 pub record Raising (w h a b : ℕ) (before words : List ℕ) (start y : ℕ) : Type 0 where
   pub inside : y < h
   pub start-is : start ≡ y * w
-  pub done : Rows w a b y h (Raised w h before) before words
+  pub done : BandRows w a b y h (Raised w h before) before words
 
 module _ {w h a b : ℕ} (band : Band w h a b) where
   -- the last row lies on the board
@@ -88,7 +88,7 @@ module _ {w h a b : ℕ} (band : Band w h a b) where
 
       -- the row over y is done
       pub raising-more : {after : List ℕ} →
-          Row (start - w) a b (Lifted (start - w) (start - w + w) (y - 1) words) words after →
+          BandRow (start - w) a b (Lifted (start - w) (start - w + w) (y - 1) words) words after →
           Raising w h a b before after (start - w) (y - 1)
       raising-more row =
           let low : start - w ≡ (y - 1) * w = omega (arith, over) in
@@ -101,7 +101,7 @@ module _ {w h a b : ℕ} (band : Band w h a b) where
           }
 
     -- every row is done
-    pub raising-end : start ≤ 0 → Rows w a b 0 h (Raised w h before) before words
+    pub raising-end : start ≤ 0 → BandRows w a b 0 h (Raised w h before) before words
     raising-end l =
         let e : y ≡ 0 = omega (arith, s .start-is, mul-le-mul-left y (band .sides .width-from)) in
-        subst (λ c. Rows w a b c h (Raised w h before) before words) e (s .done)
+        subst (λ c. BandRows w a b c h (Raised w h before) before words) e (s .done)

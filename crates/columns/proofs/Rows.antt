@@ -13,7 +13,7 @@ use lib.ListN.{length, getD, set, length-set}
 use lib.Seq.{getD-set-same, getD-set-other}
 use Rattle.rules.specs.Board.{cell}
 use Rattle.rules.proofs.Board.{cell-inj}
-use Rattle.columns.specs.Rows.{Row, Rows}
+use Rattle.columns.specs.Rows.{BandRow, BandRows}
 
 -- a row of the board ends on it
 pub row-inside : (w : ℕ) {h y start : ℕ} → start ≡ y * w → y < h → start + w ≤ w * h
@@ -23,7 +23,7 @@ row-inside w {h} is l = omega (arith, mul-le-mul-right w l, mul-comm w h)
 pub record Filling (start a b : ℕ) (Is : ℕ → ℕ → Type 0) (before words : List ℕ) (x : ℕ) : Type 0 where
   pub from : a ≤ x
   pub to : x ≤ b
-  pub done : Row start a x Is before words
+  pub done : BandRow start a x Is before words
 
 module _ {start a b : ℕ} {Is : ℕ → ℕ → Type 0} where
   -- nothing is filled
@@ -59,11 +59,11 @@ module _ {start a b : ℕ} {Is : ℕ → ℕ → Type 0} where
         }
 
     -- every column is filled
-    pub filling-end : b ≤ x → Row start a b Is before words
-    filling-end l = let e : x ≡ b = omega (arith, s .to) in subst (λ d. Row start a d Is before words) e (s .done)
+    pub filling-end : b ≤ x → BandRow start a b Is before words
+    filling-end l = let e : x ≡ b = omega (arith, s .to) in subst (λ d. BandRow start a d Is before words) e (s .done)
 
 -- no row
-pub rows-none : {w a b c : ℕ} {Is : ℕ → ℕ → ℕ → Type 0} {words : List ℕ} → Rows w a b c c Is words words
+pub rows-none : {w a b c : ℕ} {Is : ℕ → ℕ → ℕ → Type 0} {words : List ℕ} → BandRows w a b c c Is words words
 rows-none = record { words = λ x y l m o p. absurd (omega arith); others = λ k out. refl; as-long = refl }
 
 -- the rows c′ up to d′ are the rows c up to d, and row y beside them
@@ -74,9 +74,9 @@ pub record Beside (c d y c′ d′ : ℕ) : Type 0 where
 
 -- rows and a row beside them
 pub rows-more : {w a b c d y c′ d′ : ℕ} {Is : ℕ → ℕ → ℕ → Type 0} {One : ℕ → ℕ → Type 0}
-    {before words after : List ℕ} → b ≤ w → Beside c d y c′ d′ → Rows w a b c d Is before words →
-    Row (y * w) a b One words after → ((x word : ℕ) → a ≤ x → x < b → One x word → Is x y word) →
-    Rows w a b c′ d′ Is before after
+    {before words after : List ℕ} → b ≤ w → Beside c d y c′ d′ → BandRows w a b c d Is before words →
+    BandRow (y * w) a b One words after → ((x word : ℕ) → a ≤ x → x < b → One x word → Is x y word) →
+    BandRows w a b c′ d′ Is before after
 rows-more {w} {y = y} {after = after} inside beside rows row is =
     record {
       words = λ x y′ l m o p. by-cases (ℕ-discrete y′ y)

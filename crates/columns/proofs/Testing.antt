@@ -11,7 +11,7 @@ use native.Mathlib.Omega.{arith}
 use borrow.Author.Count.{below-more}
 use lib.ListN.{getD}
 use Rattle.rules.specs.Board.{cell}
-use Rattle.columns.specs.Bands.{BandTest}
+use Rattle.columns.specs.Bands.{BadBand}
 use Rattle.columns.specs.Rows.{Most}
 
 -- the columns of a row are being seen from a up to b; the greatest byte before column x is `most`
@@ -51,22 +51,22 @@ module _ {start a b : ℕ} {picture : List ℕ} where
     pub seeing-end : b ≤ x → Most start a b picture most
     seeing-end l = let e : x ≡ b = omega (arith, s .to) in subst (λ d. Most start a d picture most) e (s .done)
 
--- the rows before row y passed; row y begins at `start`
-pub record Passing (w h a b : ℕ) (picture : List ℕ) (start y : ℕ) : Type 0 where
+-- no byte before row y is bad; row y begins at `start`
+pub record Clean (w h a b : ℕ) (picture : List ℕ) (start y : ℕ) : Type 0 where
   pub to : y ≤ h
   pub start-is : start ≡ y * w
   pub good : (x y′ : ℕ) → a ≤ x → x < b → y′ < y → getD picture (cell w x y′) 0 ≤ 1
 
 module _ {w h a b : ℕ} {picture : List ℕ} where
-  -- at the top no row has passed
-  pub passing-start : Passing w h a b picture 0 0
-  passing-start = record { to = omega arith; start-is = omega arith; good = λ x y l m n. absurd (omega arith) }
+  -- above the top row there is no byte
+  pub clean-start : Clean w h a b picture 0 0
+  clean-start = record { to = omega arith; start-is = omega arith; good = λ x y l m n. absurd (omega arith) }
 
-  module _ {start y : ℕ} (s : Passing w h a b picture start y) where
-    -- row y passes
-    pub passing-more : {r : ℕ} → y < h → Most start a b picture r → r ≤ 1 →
-        Passing w h a b picture (start + w) (y + 1)
-    passing-more l q p =
+  module _ {start y : ℕ} (s : Clean w h a b picture start y) where
+    -- nor one of row y
+    pub clean-more : {r : ℕ} → y < h → Most start a b picture r → r ≤ 1 →
+        Clean w h a b picture (start + w) (y + 1)
+    clean-more l q p =
         record {
           to = omega arith;
           start-is = omega (arith, s .start-is);
@@ -74,19 +74,19 @@ module _ {w h a b : ℕ} {picture : List ℕ} where
               (rw (← s .start-is) (omega (arith, q .greatest x m n))) y′;
         }
 
-    -- row y is refused
-    pub refuses : {r : ℕ} → y < h → Most start a b picture r → 1 < r → BandTest w h a b picture false
-    refuses l q p =
+    -- a byte of row y is bad
+    pub bad-row : {r : ℕ} → y < h → Most start a b picture r → 1 < r → BadBand w h a b picture true
+    bad-row l q p =
         let t = q .attained (omega arith) in
         record {
-          passed = λ e. absurd (false≢true e);
-          refused = λ _. (t .0, y, t .1, t .2, l, rw (← s .start-is) (omega (arith, t .3)));
+          holds = λ _. (t .0, y, t .1, t .2, l, rw (← s .start-is) (omega (arith, t .3)));
+          passes = λ e. absurd (true≢false e);
         }
 
-    -- every row passed
-    pub passes : h ≤ y → BandTest w h a b picture true
-    passes l =
+    -- no byte of any row is
+    pub clean-end : h ≤ y → BadBand w h a b picture false
+    clean-end l =
         record {
-          passed = λ _ x y′ m n o. s .good x y′ m n (omega (arith, s .to));
-          refused = λ e. absurd (true≢false e);
+          holds = λ e. absurd (false≢true e);
+          passes = λ _ x y′ m n o. s .good x y′ m n (omega (arith, s .to));
         }

@@ -22,8 +22,8 @@ pub record Swept (w h a b : ℕ) (picture before after : List ℕ) : Type 0 wher
       getD after k 0 ≡ getD before k 0
   pub as-long : length after ≡ length before
 
--- "A picture is W·H bytes, 1 bored and 0 sound.": whether every byte of the band is one of the two
-pub record BandTest (w h a b : ℕ) (picture : List ℕ) (r : Bool) : Type 0 where
-  pub passed : r ≡ true → (x y : ℕ) → a ≤ x → x < b → y < h → getD picture (cell w x y) 0 ≤ 1
-  pub refused : r ≡ false →
+-- 5: "a picture byte is neither 0 nor 1", of the bytes of the band: whether there is one
+pub record BadBand (w h a b : ℕ) (picture : List ℕ) (r : Bool) : Type 0 where
+  pub holds : r ≡ true →
       (x : ℕ) × (y : ℕ) × (a ≤ x) × (x < b) × (y < h) × (1 < getD picture (cell w x y) 0)
+  pub passes : r ≡ false → (x y : ℕ) → a ≤ x → x < b → y < h → getD picture (cell w x y) 0 ≤ 1

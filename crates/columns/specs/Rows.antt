@@ -7,16 +7,16 @@ use lib.ListN.{length, getD}
 use Rattle.rules.specs.Limits.{mark}
 use Rattle.rules.specs.Board.{cell, away, Bored}
 use Rattle.rules.specs.Columns.{ColumnWord}
-use Rattle.columns.specs.Words.{Above, Passed, Nearer}
+use Rattle.columns.specs.Words.{Above, Carried, Nearer}
 
 -- in one row the words of the columns a up to b are what they are to be, and every other word is as it was
-pub record Row (start a b : ℕ) (Is : ℕ → ℕ → Type 0) (before after : List ℕ) : Type 0 where
+pub record BandRow (start a b : ℕ) (Is : ℕ → ℕ → Type 0) (before after : List ℕ) : Type 0 where
   pub words : (x : ℕ) → a ≤ x → x < b → Is x (getD after (start + x) 0)
   pub others : (k : ℕ) → ((x : ℕ) → a ≤ x → x < b → k ≡ start + x → ⊥) → getD after k 0 ≡ getD before k 0
   pub as-long : length after ≡ length before
 
 -- the same of the rows c up to d
-pub record Rows (w a b c d : ℕ) (Is : ℕ → ℕ → ℕ → Type 0) (before after : List ℕ) : Type 0 where
+pub record BandRows (w a b c d : ℕ) (Is : ℕ → ℕ → ℕ → Type 0) (before after : List ℕ) : Type 0 where
   pub words : (x y : ℕ) → a ≤ x → x < b → c ≤ y → y < d → Is x y (getD after (cell w x y) 0)
   pub others : (k : ℕ) → ((x y : ℕ) → a ≤ x → x < b → c ≤ y → y < d → k ≡ cell w x y → ⊥) →
       getD after k 0 ≡ getD before k 0
@@ -24,11 +24,11 @@ pub record Rows (w a b c d : ℕ) (Is : ℕ → ℕ → ℕ → Type 0) (before 
 
 -- the word of column x in the top row after a step down, with nothing above it
 abbrev pub Topped : List ℕ → ℕ → ℕ → Type 0
-Topped picture x word = Passed (getD picture x 0) 0 mark word
+Topped picture x word = Carried (getD picture x 0) 0 mark word
 
 -- the word of column x in row y after a step down from the row that begins at `above`
 abbrev pub Stepped : ℕ → ℕ → ℕ → List ℕ → List ℕ → ℕ → ℕ → Type 0
-Stepped above start y picture words x word = Passed (getD picture (start + x) 0) y (getD words (above + x) 0) word
+Stepped above start y picture words x word = Carried (getD picture (start + x) 0) y (getD words (above + x) 0) word
 
 -- the word of column x in row y after a step up from the row that begins at `below`
 abbrev pub Lifted : ℕ → ℕ → ℕ → List ℕ → ℕ → ℕ → Type 0

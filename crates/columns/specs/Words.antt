@@ -5,18 +5,18 @@ use Prim.Native.Nat.{ℕ, _-_, _≤_, _<_}
 use Rattle.rules.specs.Limits.{mark}
 
 -- row j is the last feature at or above row y
-pub record Last (Feature : ℕ → Type 0) (y j : ℕ) : Type 0 where
+pub record LastAbove (Feature : ℕ → Type 0) (y j : ℕ) : Type 0 where
   pub at-or-above : j ≤ y
   pub feature : Feature j
   pub last : (j′ : ℕ) → j′ ≤ y → Feature j′ → j′ ≤ j
 
 -- the word that the down sweep leaves in row y: that row, or the mark where there is none
 pub record Above (Feature : ℕ → Type 0) (y word : ℕ) : Type 0 where
-  pub named : word ≢ mark → Last Feature y word
+  pub named : word ≢ mark → LastAbove Feature y word
   pub empty : word ≡ mark → (j : ℕ) → j ≤ y → Feature j → ⊥
 
 -- a step down to row y: a bored cell names its own row, any other passes on the word above it
-pub record Passed (byte y above word : ℕ) : Type 0 where
+pub record Carried (byte y above word : ℕ) : Type 0 where
   pub bored : byte ≡ 1 → word ≡ y
   pub sound : byte ≢ 1 → word ≡ above
 

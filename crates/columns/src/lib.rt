@@ -1,12 +1,12 @@
 // The two sweeps over a band of columns, and the test of the band's bytes. A band is the columns a up to b, with a and
-// without b. Rows are taken one after the other, so that memory is read in order.
+// without b. BandRows are taken one after the other, so that memory is read in order.
 use crate::bytes::row_most;
 use crate::down::down_rows;
 use crate::up::up_rows;
 ghost use Prim.Native.Nat.{_*_, _≤_};
 ghost use mathlib.Core.Path.{_≡_};
 ghost use lib.ListN.{length};
-ghost use Rattle.columns.specs.Bands.{Band, Swept, BandTest};
+ghost use Rattle.columns.specs.Bands.{Band, Swept, BadBand};
 
 mod bytes;
 mod down;
@@ -22,17 +22,17 @@ pub fn sweep(w: usize, h: usize, a: usize, b: usize, picture: &[u8], words: &mut
     up_rows(w, h, a, b, words);
 }
 
-// Whether every byte of the band is 0 or 1.
-pub fn bytes_good(w: usize, h: usize, a: usize, b: usize, picture: &[u8]) -> bool
+// 5, of a band: some byte of it is neither 0 nor 1.
+pub fn bad_band(w: usize, h: usize, a: usize, b: usize, picture: &[u8]) -> bool
     requires { ⌜ Band w h a b × (length (now picture) ≡ w * h) ⌝ }
-    ensures { λ r. ⌜ BandTest w h a b (now (picture .entry)) r ⌝ }
+    ensures { λ r. ⌜ BadBand w h a b (now (picture .entry)) r ⌝ }
 {
     let mut start = 0;
     for y in 0..h {
         if 1 < row_most(start, a, b, picture) {
-            return false;
+            return true;
         }
         start += w;
     }
-    true
+    false
 }

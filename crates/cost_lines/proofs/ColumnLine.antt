@@ -27,10 +27,10 @@ use Rattle.gauge.specs.Line.{Known, Line, Wins, height-at}
 use Rattle.gauge.proofs.Places.{apart-below}
 use Rattle.rows.proofs.RowLine.{combine-small}
 use Rattle.cost_lines.specs.Lines.{Gathered, winner-word, Scattered}
-use Rattle.cost_lines.specs.Left.{Passed, ColumnLeft, ColumnsLeft, ColumnMore}
+use Rattle.cost_lines.specs.After.{FitAccepted, ColumnAfter, ColumnsAfter, ColumnMore}
 
 -- a cell that has a cost has one within the limit
-pub within-limit : {kind w h : ℕ} {costs : List ℕ} → Passed kind w h costs → (i j : ℕ) → i < w → j < h → Unmarked w costs i j
+pub within-limit : {kind w h : ℕ} {costs : List ℕ} → FitAccepted kind w h costs → (i j : ℕ) → i < w → j < h → Unmarked w costs i j
     → cost-at w costs i j ≤ cost-limit
 within-limit {w = w} {costs = costs} P i j l m n =
     let within : cell w i j < length costs = omega (arith, cell-in l m, P .lent .picture-is) in
@@ -47,7 +47,7 @@ added (suc (suc k)) dx v l = absurd (omega arith)
 pub known : (g : Gauge) → g .kind ≤ 1 → Known g
 known g l = record { kind-in = omega arith }
 
-module _ {g : Gauge} {w h x : ℕ} {costs values : List ℕ} (P : Passed (g .kind) w h costs) (x-in : x < w)
+module _ {g : Gauge} {w h x : ℕ} {costs values : List ℕ} (P : FitAccepted (g .kind) w h costs) (x-in : x < w)
     (long : length values ≡ h) (G : Gathered w x costs values) where
   -- a cell that has a cost stands at it, and a marked one at the line limit
   true-value : (j : ℕ) → j < h → Unmarked w costs x j → getD values j 0 ≡ cost-at w costs x j
@@ -142,7 +142,7 @@ pub record Sweeping (kind w h : ℕ) (costs values winners scratch : List ℕ) (
   pub values-long : length values ≡ h
   pub winners-long : length winners ≡ h
   pub scratch-long : length scratch ≡ scratch-words w h
-  pub left : ColumnsLeft kind w h costs scratch x
+  pub left : ColumnsAfter kind w h costs scratch x
   pub within : x ≤ w
 
 -- one column more
@@ -158,7 +158,7 @@ sweeping-more {kind} {w} {h} {x} {costs} {values} {scratch = scratch} {scratch�
       winners-long = n ∙ S .winners-long;
       scratch-long = s ∙ S .scratch-long;
       left =
-          below-more (ColumnLeft kind w h costs scratch′) x
+          below-more (ColumnAfter kind w h costs scratch′) x
           (λ i l y m. rw (M′ .others i y (omega arith) m (omega arith)) (S .left i l y m)) (M′ .made);
       within = omega arith;
     }

@@ -24,18 +24,18 @@ use Rattle.rules.proofs.Parts.{part-length, put-before, put-inside}
 use Rattle.gauge.specs.declared.Gauge.{Gauge}
 use Rattle.gauge.specs.Line.{Wins, height-at}
 use Rattle.gauge.proofs.Places.{apart-below}
-use Rattle.rows.specs.Row.{Believed, Written}
+use Rattle.rows.specs.Row.{Believed, RowWritten}
 use Rattle.rows.proofs.RowLine.{lift-small, Valued, words-part, words-length, words-at, words-some, row-of}
 use Rattle.cost_lines.specs.Lines.{Priced, Ranked, column-value}
-use Rattle.cost_lines.specs.Left.{Passed, ColumnsLeft, RowLeft, RowsLeft, RowMore}
+use Rattle.cost_lines.specs.After.{FitAccepted, ColumnsAfter, RowAfter, RowsAfter, RowMore}
 use Rattle.cost_lines.proofs.ColumnLine.{within-limit, known}
 
 -- a row of the board stands within its cells
 pub row-within : (w : ℕ) {h y : ℕ} → y < h → y * w + w ≤ w * h
 row-within w {h} {y} l = let m : (y + 1) * w ≤ h * w = mul-le-mul-right w (omega arith) in omega arith
 
-module _ {g : Gauge} {w h y : ℕ} {costs : List ℕ} (scratch : List ℕ) (P : Passed (g .kind) w h costs) (y-in : y < h)
-    (C : ColumnsLeft (g .kind) w h costs scratch w) (room : length scratch ≡ scratch-words w h) where
+module _ {g : Gauge} {w h y : ℕ} {costs : List ℕ} (scratch : List ℕ) (P : FitAccepted (g .kind) w h costs) (y-in : y < h)
+    (C : ColumnsAfter (g .kind) w h costs scratch w) (room : length scratch ≡ scratch-words w h) where
   -- what the rows' own laws ask of the words
   pub believed : Believed g y (y * w) (w * h) scratch w
   believed =
@@ -109,7 +109,7 @@ module _ {g : Gauge} {w h y : ℕ} {costs : List ℕ} (scratch : List ℕ) (P : 
 
     module _ {winners distances sites : List ℕ}
         (W : (x : ℕ) → x < length values → Wins (height-at g values) (length values) x (getD winners x 0))
-        (O : Written g (words-part (y * w) w scratch) values winners distances sites) where
+        (O : RowWritten g (words-part (y * w) w scratch) values winners distances sites) where
       -- what is written out is the row's map
       row-map : (x : ℕ) → x < w → CostMapWord (g .kind) w h costs x y (getD distances x 0)
           × CostMapSite (g .kind) w h costs x y (getD sites x 0)
@@ -129,8 +129,8 @@ module _ {g : Gauge} {w h y : ℕ} {costs : List ℕ} (scratch : List ℕ) (P : 
           }
 
 -- a row that stands elsewhere with the same words and sites is made too
-row-same : {kind w h y : ℕ} {costs : List ℕ} {word word′ site site′ : ℕ → ℕ} → RowLeft kind w h costs y word site
-    → ((x : ℕ) → x < w → word′ x ≡ word x) → ((x : ℕ) → x < w → site′ x ≡ site x) → RowLeft kind w h costs y word′ site′
+row-same : {kind w h y : ℕ} {costs : List ℕ} {word word′ site site′ : ℕ → ℕ} → RowAfter kind w h costs y word site
+    → ((x : ℕ) → x < w → word′ x ≡ word x) → ((x : ℕ) → x < w → site′ x ≡ site x) → RowAfter kind w h costs y word′ site′
 row-same R d s = record { words = λ x l. rw (d x l) (R .words x l); names = λ x l. rw (s x l) (R .names x l) }
 
 -- going over the rows: the rows above y have their map, and the column words are as they were
@@ -139,8 +139,8 @@ pub record Crossing (kind w h : ℕ) (costs values scratch distances sites : Lis
   pub scratch-long : length scratch ≡ scratch-words w h
   pub distances-long : length distances ≡ w * h
   pub sites-long : length sites ≡ w * h
-  pub columns : ColumnsLeft kind w h costs scratch w
-  pub left : RowsLeft kind w h costs distances sites y
+  pub columns : ColumnsAfter kind w h costs scratch w
+  pub left : RowsAfter kind w h costs distances sites y
   pub within : y ≤ h
 
 -- the part of a list that row y is
@@ -189,7 +189,7 @@ crossing-more {kind} {w} {h} {y} {costs} {scratch = scratch} {distances = distan
       sites-long = same-len-mid (y * w) (y * w + w - y * w) sites site-part n ∙ X .sites-long;
       columns = λ i l j m. rw (M′ .kept (cell w i j) (cell-in l m)) (X .columns i l j m);
       left =
-          below-more (λ j. RowLeft kind w h costs j (λ x. getD (row-put w y distances word-part) (cell w x j) 0)
+          below-more (λ j. RowAfter kind w h costs j (λ x. getD (row-put w y distances word-part) (cell w x j) 0)
           (λ x. getD (row-put w y sites site-part) (cell w x j) 0)) y
           (λ j l. row-same (X .left j l) (λ x m. row-above w distances word-part y-in (X .distances-long) x j m l)
           (λ x m. row-above w sites site-part y-in (X .sites-long) x j m l))

@@ -1,2 +1,2 @@
 pub mod Lines
-pub mod Left
+pub mod After

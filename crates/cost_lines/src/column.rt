@@ -1,22 +1,22 @@
 // The columns of a cost picture: the engine along each, from the costs to the column words.
 use envelope::winners_of;
 use gauge::Gauge;
-use rules::LINE;
+use rules::LINE_LIMIT;
 use rules::MARK;
-use rules::wide;
+use rules::as_index;
 ghost use Prim.Native.Nat.{ℕ, _*_, _≤_, _<_};
 ghost use mathlib.Core.Path.{_≡_};
 ghost use lib.ListN.{length, getD};
 ghost use Rattle.rules.specs.Refusals.{scratch-words};
 ghost use Rattle.cost_lines.specs.Lines.{cell-value, Gathered, winner-word, Scattered};
-ghost use Rattle.cost_lines.specs.Left.{Passed, ColumnsLeft, ColumnMore};
+ghost use Rattle.cost_lines.specs.After.{FitAccepted, ColumnsAfter, ColumnMore};
 
 // What a cell stands at in its column: its cost, or a value above every true one for a marked cell.
 fn cell_value(cost: u32) -> u64
     ensures { λ r. ⌜ r ≡ cell-value cost ⌝ }
 {
     if cost == MARK {
-        return LINE;
+        return LINE_LIMIT;
     }
     cost as u64
 }
@@ -38,7 +38,11 @@ fn winner_word(values: &[u64], j: u32) -> u32
     requires { ⌜ j < length (now values) ⌝ }
     ensures { λ r. ⌜ r ≡ winner-word (now (values .entry)) j ⌝ }
 {
-    if values[wide(j)] == LINE { MARK } else { j }
+    if values[as_index(j)] == LINE_LIMIT {
+        MARK
+    } else {
+        j
+    }
 }
 
 // The words of column x from its winners.
@@ -65,7 +69,7 @@ fn column_line(
     winners: &mut [u32],
     scratch: &mut [u32],
 )
-    requires { ⌜ Passed (g .kind) w (length (now values)) (now costs) × (x < w)
+    requires { ⌜ FitAccepted (g .kind) w (length (now values)) (now costs) × (x < w)
         × (length (now winners) ≡ length (now values))
         × (length (now scratch) ≡ scratch-words w (length (now values))) ⌝ }
     ensures { λ _. ⌜ ColumnMore (g .kind) w (length (now (values .entry))) x (now (costs .entry))
@@ -88,9 +92,9 @@ pub fn all_columns(
     winners: &mut [u32],
     scratch: &mut [u32],
 )
-    requires { ⌜ Passed (g .kind) w (length (now values)) (now costs) × (length (now winners) ≡ length (now values))
+    requires { ⌜ FitAccepted (g .kind) w (length (now values)) (now costs) × (length (now winners) ≡ length (now values))
         × (length (now scratch) ≡ scratch-words w (length (now values))) ⌝ }
-    ensures { λ _. ⌜ ColumnsLeft (g .kind) w (length (now (values .entry))) (now (costs .entry))
+    ensures { λ _. ⌜ ColumnsAfter (g .kind) w (length (now (values .entry))) (now (costs .entry))
         (now (scratch .exit)) w ⌝ }
 {
     let mut x = 0;

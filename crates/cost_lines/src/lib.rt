@@ -7,14 +7,14 @@ ghost use mathlib.Core.Path.{_≡_};
 ghost use lib.ListN.{length};
 ghost use Rattle.rules.specs.Limits.{side-limit};
 ghost use Rattle.rules.specs.Refusals.{scratch-words};
-ghost use Rattle.cost_lines.specs.Left.{Passed, RowsLeft};
+ghost use Rattle.cost_lines.specs.After.{FitAccepted, RowsAfter};
 
 mod column;
 mod row;
 
 // The rows of the map of a cost picture that has passed the tests, in buffers of just its size: columns, then rows, on
 // the line that is lent. The columns' winners stand in the distances, which are free until the rows are written.
-pub fn steps(
+pub fn columns_and_rows(
     g: Gauge,
     w: usize,
     h: usize,
@@ -24,9 +24,9 @@ pub fn steps(
     sites: &mut [u32],
     scratch: &mut [u32],
 )
-    requires { ⌜ Passed (g .kind) w h (now costs) × (length (now line) ≡ side-limit) × (length (now distances) ≡ w * h)
+    requires { ⌜ FitAccepted (g .kind) w h (now costs) × (length (now line) ≡ side-limit) × (length (now distances) ≡ w * h)
         × (length (now sites) ≡ w * h) × (length (now scratch) ≡ scratch-words w h) ⌝ }
-    ensures { λ _. ⌜ RowsLeft (g .kind) w h (now (costs .entry)) (now (distances .exit)) (now (sites .exit)) h ⌝ }
+    ensures { λ _. ⌜ RowsAfter (g .kind) w h (now (costs .entry)) (now (distances .exit)) (now (sites .exit)) h ⌝ }
 {
     all_columns(g, w, costs, &mut line[..h], &mut distances[..h], scratch);
     all_rows(g, h, costs, &mut line[..w], scratch, distances, sites);

@@ -5,9 +5,9 @@ use gauge::Gauge;
 use gauge::apart;
 use gauge::lifted;
 use rows::write_out;
-use rules::LINE;
+use rules::LINE_LIMIT;
 use rules::MARK;
-use rules::wide;
+use rules::as_index;
 ghost use Prim.Native.Nat.{ℕ, _*_, _<_};
 ghost use mathlib.Core.Path.{_≡_};
 ghost use lib.ListN.{length, getD};
@@ -15,7 +15,7 @@ ghost use Rattle.rules.specs.Limits.{side-limit};
 ghost use Rattle.rules.specs.Refusals.{scratch-words};
 ghost use Rattle.gauge.specs.Line.{Known};
 ghost use Rattle.cost_lines.specs.Lines.{Priced, column-value, Ranked};
-ghost use Rattle.cost_lines.specs.Left.{Passed, ColumnsLeft, RowsLeft, RowMore};
+ghost use Rattle.cost_lines.specs.After.{FitAccepted, ColumnsAfter, RowsAfter, RowMore};
 
 // What column i stands at in row y: the difference of rows to the row that its word names, lifted, and the cost there;
 // or a value above every true one for a column with no feature.
@@ -24,9 +24,9 @@ fn column_value(g: Gauge, w: usize, y: usize, i: usize, word: u32, costs: &[u32]
     ensures { λ r. ⌜ r ≡ column-value (g .kind) w (now (costs .entry)) y i word ⌝ }
 {
     if word == MARK {
-        return LINE;
+        return LINE_LIMIT;
     }
-    let row = wide(word);
+    let row = as_index(word);
     let cost = costs[row * w + i] as u64;
     lifted(g, apart(y, row)) + cost
 }
@@ -56,8 +56,8 @@ fn row_line(
     distances: &mut [u32],
     sites: &mut [u32],
 )
-    requires { ⌜ Passed (g .kind) (length (now values)) h (now costs) × (y < h)
-        × ColumnsLeft (g .kind) (length (now values)) h (now costs) (now scratch) (length (now values))
+    requires { ⌜ FitAccepted (g .kind) (length (now values)) h (now costs) × (y < h)
+        × ColumnsAfter (g .kind) (length (now values)) h (now costs) (now scratch) (length (now values))
         × (length (now scratch) ≡ scratch-words (length (now values)) h)
         × (length (now distances) ≡ length (now values)) × (length (now sites) ≡ length (now values)) ⌝ }
     ensures { λ _. ⌜ RowMore (g .kind) (length (now (values .entry))) h y (now (costs .entry)) (now (scratch .entry))
@@ -83,11 +83,11 @@ pub fn all_rows(
     distances: &mut [u32],
     sites: &mut [u32],
 )
-    requires { ⌜ Passed (g .kind) (length (now values)) h (now costs)
-        × ColumnsLeft (g .kind) (length (now values)) h (now costs) (now scratch) (length (now values))
+    requires { ⌜ FitAccepted (g .kind) (length (now values)) h (now costs)
+        × ColumnsAfter (g .kind) (length (now values)) h (now costs) (now scratch) (length (now values))
         × (length (now scratch) ≡ scratch-words (length (now values)) h)
         × (length (now distances) ≡ length (now values) * h) × (length (now sites) ≡ length (now values) * h) ⌝ }
-    ensures { λ _. ⌜ RowsLeft (g .kind) (length (now (values .entry))) h (now (costs .entry)) (now (distances .exit))
+    ensures { λ _. ⌜ RowsAfter (g .kind) (length (now (values .entry))) h (now (costs .entry)) (now (distances .exit))
         (now (sites .exit)) h ⌝ }
 {
     let w = values.len();

@@ -9,14 +9,14 @@ use lib.ListN.{length, getD, drop, List·getD-append}
 use Rattle.rules.specs.Refusals.{scratch-words}
 use Rattle.rules.specs.Accepted.{CostAccepted}
 use Rattle.rules.specs.Tie.{CostMapWord, CostMapSite}
-use Rattle.rules.specs.Calls.{buffers, Beyond, MapLeft}
+use Rattle.rules.specs.Calls.{buffers, Beyond, MapAfter}
 use Rattle.rules.proofs.Board.{cell-in}
 use Rattle.rules.proofs.Parts.{front-beyond}
-use Rattle.cost_lines.specs.Left.{Passed, RowsLeft}
+use Rattle.cost_lines.specs.After.{FitAccepted, RowsAfter}
 
 -- the lengths of the buffers do not matter where they are cut to the board's size
 pub passed : {w h kind : ℕ} {costs : List ℕ} {distances sites scratch : ℕ}
-    → CostAccepted w h kind costs distances sites scratch → Passed kind w h costs
+    → CostAccepted w h kind costs distances sites scratch → FitAccepted kind w h costs
 passed A =
     record {
       sides = A .sides;
@@ -37,13 +37,13 @@ front-at : {n k : ℕ} (l front : List ℕ) → length front ≡ n → k < n →
 front-at {n} {k} l front e h = List·getD-append front (drop n l) 0 k (omega arith)
 
 -- the map stands in the front of each buffer
-pub map-left : {w h kind : ℕ} {costs distances sites scratch scratch′ : List ℕ} (words names : List ℕ)
+pub map-after : {w h kind : ℕ} {costs distances sites scratch scratch′ : List ℕ} (words names : List ℕ)
     → CostAccepted w h kind costs (length distances) (length sites) (length scratch)
-    → length words ≡ w * h → length names ≡ w * h → RowsLeft kind w h costs words names h
+    → length words ≡ w * h → length names ≡ w * h → RowsAfter kind w h costs words names h
     → ((k : ℕ) → k < scratch-words w h → getD scratch′ k 0 ≡ 0) → Beyond (scratch-words w h) scratch scratch′
-    → MapLeft w h (CostMapWord kind w h costs) (CostMapSite kind w h costs) (buffers distances sites scratch)
+    → MapAfter w h (CostMapWord kind w h costs) (CostMapSite kind w h costs) (buffers distances sites scratch)
     (buffers (words ++ drop (w * h) distances) (names ++ drop (w * h) sites) scratch′)
-map-left {w} {distances = distances} {sites} words names A words-long names-long R zeroed beyond =
+map-after {w} {distances = distances} {sites} words names A words-long names-long R zeroed beyond =
     record {
       words = λ x y l m. rw (front-at distances words words-long (cell-in l m)) (R y m .words x l);
       names = λ x y l m. rw (front-at sites names names-long (cell-in l m)) (R y m .names x l);

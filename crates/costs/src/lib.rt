@@ -1,17 +1,17 @@
 // The public cost entry: the refusals first, then the lines of the map.
-use cost_lines::steps;
-use entry::scratch_words;
-use entry::set_front;
+use board_tests::scratch_words;
+use cost_lines::columns_and_rows;
 use gauge::Gauge;
-use refusals::prices::of_costs;
-use rules::SIDE;
+use refusals::cost::cost_refusal;
+use rules::SIDE_LIMIT;
+use set_words::set_front;
 ghost use lib.ListN.{length};
 ghost use Rattle.rules.specs.Tie.{CostMapWord, CostMapSite};
 ghost use Rattle.rules.specs.Accepted.{CostAccepted};
-ghost use Rattle.rules.specs.Calls.{CostCall, MapLeft, buffers};
+ghost use Rattle.rules.specs.Calls.{CostCall, MapAfter, buffers};
 
 // The map of a cost picture that has passed the tests.
-fn make(
+fn accepted_map(
     g: Gauge,
     w: usize,
     h: usize,
@@ -21,14 +21,14 @@ fn make(
     scratch: &mut [u32],
 )
     requires { ⌜ CostAccepted w h (g .kind) (now costs) (length (now distances)) (length (now sites)) (length (now scratch)) ⌝ }
-    ensures { λ _. ⌜ MapLeft w h (CostMapWord (g .kind) w h (now (costs .entry))) (CostMapSite (g .kind) w h (now (costs .entry)))
+    ensures { λ _. ⌜ MapAfter w h (CostMapWord (g .kind) w h (now (costs .entry))) (CostMapSite (g .kind) w h (now (costs .entry)))
         (buffers (now (distances .entry)) (now (sites .entry)) (now (scratch .entry)))
         (buffers (now (distances .exit)) (now (sites .exit)) (now (scratch .exit))) ⌝ }
 {
-    let mut line = [0u64; SIDE as usize];
+    let mut line = [0u64; SIDE_LIMIT as usize];
     let n = w * h;
     let all = scratch_words(w, h);
-    steps(
+    columns_and_rows(
         g,
         w,
         h,
@@ -55,7 +55,7 @@ pub fn cost_map(
         (buffers (now (distances .entry)) (now (sites .entry)) (now (scratch .entry))) r
         (buffers (now (distances .exit)) (now (sites .exit)) (now (scratch .exit))) ⌝ }
 {
-    let refused = of_costs(
+    let refused = cost_refusal(
         w,
         h,
         kind,
@@ -68,6 +68,6 @@ pub fn cost_map(
         return refused;
     }
     let g = Gauge { kind };
-    make(g, w as usize, h as usize, costs, distances, sites, scratch);
+    accepted_map(g, w as usize, h as usize, costs, distances, sites, scratch);
     0
 }

@@ -4,7 +4,7 @@
 use gauge::Gauge;
 use gauge::height;
 use gauge::place;
-use rules::wide;
+use rules::as_index;
 ghost use Prim.Native.Nat.{ℕ, _+_, _≤_, _<_};
 ghost use mathlib.Core.Path.{_≡_};
 ghost use lib.Dec.{leb};
@@ -27,8 +27,8 @@ fn stays(g: Gauge, values: &[u64], work: &[u32], k: usize, u: usize) -> bool
         (height-at g (now (values .entry)) u (starts (now (work .entry)) k)) ⌝ }
 {
     let n = values.len();
-    let start = wide(work[k]);
-    let holder = wide(work[n + k]);
+    let start = as_index(work[k]);
+    let holder = as_index(work[n + k]);
     height(g, values, holder, start) <= height(g, values, u, start)
 }
 
@@ -61,7 +61,7 @@ fn begin(g: Gauge, values: &[u64], work: &[u32], kept: usize, u: usize) -> usize
         return 0;
     }
     let n = values.len();
-    let holder = wide(work[n + (kept - 1)]);
+    let holder = as_index(work[n + (kept - 1)]);
     place(g, values, holder, u)
 }
 
@@ -118,7 +118,7 @@ fn spread(work: &[u32], m: usize, winners: &mut [u32])
     while 0 < x {
         x -= 1;
         winners[x] = work[n + (q - 1)];
-        if wide(work[q - 1]) == x {
+        if as_index(work[q - 1]) == x {
             q -= 1;
         }
     }

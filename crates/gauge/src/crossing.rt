@@ -5,7 +5,7 @@ ghost use mathlib.Core.Path.{_≡_};
 ghost use Rattle.rules.specs.Limits.{side-limit, line-limit};
 
 // The changeover where it is not below zero.
-pub fn core(i: usize, u: usize, a: u64, b: u64) -> u64
+pub fn last_euclid(i: usize, u: usize, a: u64, b: u64) -> u64
     requires { ⌜ (i < u) × (u < side-limit) × (a ≤ line-limit) × (b ≤ line-limit) × (i * i + a ≤ u * u + b) ⌝ }
     ensures { λ r. ⌜ r ≡ (u * u + b - (i * i + a)) / (2 * (u - i)) ⌝ }
 {

@@ -1,7 +1,7 @@
 // The gauge of a line, and what looks inside it: the height of a column's curve, and the place where a column stops
 // holding against one to its right. The engine and the rows ask here and do not go by the kind themselves, so that they
 // are written and proved once for all kinds.
-use crossing::core;
+use crossing::last_euclid;
 ghost use Prim.Native.Nat.{_+_, _*_, _≤_, _<_};
 ghost use mathlib.Core.Path.{_≡_};
 ghost use lib.ListN.{length};
@@ -107,7 +107,7 @@ fn last(g: Gauge, n: usize, i: usize, u: usize, a: u64, b: u64) -> u64
 {
     let kind = g.kind;
     if kind == 0 {
-        return core(i, u, a, b);
+        return last_euclid(i, u, a, b);
     }
     if kind == 1 {
         return last_manhattan(n, i, u, a, b);

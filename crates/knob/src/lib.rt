@@ -31,7 +31,7 @@ pub fn open_value(value: f32) -> Value
     ensures { λ r. ⌜ Opens (toBits binary32 value) r ⌝ }
 {
     let x = value * SCALE;
-    if 1.0 <= x && x <= rules::KNOB as f32 {
+    if 1.0 <= x && x <= rules::KNOB_LIMIT as f32 {
         let k = truncating_f32_to_u64(x) as u32;
         if k as f32 * BACK == value {
             return Value::Whole(k);
@@ -63,7 +63,7 @@ fn bad_slices(squares: usize, clear: usize) -> bool
     if squares == 0 {
         return true;
     }
-    squares > rules::CLEAR
+    squares > rules::CLEAR_LIMIT
 }
 
 // "1 where d·a² ≥ b², else 0".

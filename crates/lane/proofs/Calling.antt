@@ -15,16 +15,16 @@ use Rattle.rules.specs.Board.{cell, Sides}
 use Rattle.rules.specs.Refusals.{answer, any, bad-sides, bad-buffers, bad-byte, no-bore, picture-rows, lane-rows}
 use Rattle.rules.specs.Accepted.{LaneAccepted}
 use Rattle.rules.specs.Tie.{MapWord}
-use Rattle.rules.specs.Calls.{buffers, PictureLeft, LaneLeft}
+use Rattle.rules.specs.Calls.{buffers, PictureAfter, LaneAfter}
 use Rattle.rules.proofs.Board.{cell-in, cells-few}
 use Rattle.rules.proofs.Parts.{front-beyond}
 use Rattle.rules.proofs.Refusals.{kind-good, weights-good, or-first, lane-row-by-row}
-use Rattle.flood.specs.Around.{Rows, Lists}
-use Rattle.flood.specs.Labelling.{at}
-use Rattle.courses.specs.Course.{Laid}
+use Rattle.lane_flood.specs.Around.{InRows, Lists}
+use Rattle.lane_flood.specs.Labelling.{at}
+use Rattle.lane_search.specs.Course.{Laid}
 
 -- the cells of the board lie in rows of its width
-pub board-rows : {w h : ℕ} → Sides w h → Rows w (w * h)
+pub board-rows : {w h : ℕ} → Sides w h → InRows w (w * h)
 board-rows {w} {h} s =
     record {
       rows = h;
@@ -35,9 +35,9 @@ board-rows {w} {h} s =
     }
 
 -- the first words of a list that come back as they were, if they hold the same
-pub as-left : (n : ℕ) (list part : List ℕ) → n ≤ length list → length part ≡ n
+pub as-after : (n : ℕ) (list part : List ℕ) → n ≤ length list → length part ≡ n
     → ((k : ℕ) → k < n → at part k ≡ at list k) → part ++ drop n list ≡ list
-as-left n list part room long same =
+as-after n list part room long same =
     ap (λ l. l ++ drop n list)
     (ext-getD 0 part (take n list) (long ∙ sym (length-take-le n list room))
     (λ i h. same i (omega arith) ∙ sym (getD-take n list i 0 (omega arith))))
@@ -58,7 +58,7 @@ module _ (w h : ℕ) (picture : List ℕ) (from to : ℕ) where
 
   module _ {distances sites scratch distances′ sites′ scratch′ : List ℕ} (path : List ℕ)
       (A : LaneAccepted w h picture from to (length distances) (length sites) (length scratch) (length path))
-      (M : PictureLeft w h 0 0 0 picture (buffers distances sites scratch) (buffers distances′ sites′ scratch′)) where
+      (M : PictureAfter w h 0 0 0 picture (buffers distances sites scratch) (buffers distances′ sites′ scratch′)) where
     -- the lists are long enough for the board
     pub words-room : w * h ≤ length distances′
     words-room = omega (arith, A .lent .distances-from, M .distances-beyond .as-long)
@@ -71,7 +71,7 @@ module _ (w h : ℕ) (picture : List ℕ) (from to : ℕ) where
         × (from < length (take (w * h) distances′)) × (to < length (take (w * h) distances′))
     askable =
         let words-long = length-take-le (w * h) distances′ words-room in
-        let board : Rows w (length (take (w * h) distances′)) = rw words-long (board-rows (A .sides)) in (
+        let board : InRows w (length (take (w * h) distances′)) = rw words-long (board-rows (A .sides)) in (
           record {
             board = board;
             labels-long = length-take-le (w * h) scratch′ scratch-room ∙ sym words-long;
@@ -103,13 +103,13 @@ module _ (w h : ℕ) (picture : List ℕ) (from to : ℕ) where
       -- the scratch is as the map left it
       scratch-back : labels ++ drop (w * h) scratch′ ≡ scratch′
       scratch-back =
-          as-left (w * h) scratch′ labels scratch-room (labels-long ∙ length-take-le (w * h) scratch′ scratch-room)
+          as-after (w * h) scratch′ labels scratch-room (labels-long ∙ length-take-le (w * h) scratch′ scratch-room)
           (λ k l. laid .cleared k l ∙ sym (M .zeroed k (omega arith)))
 
       -- all of it
-      pub lane-left : LaneLeft w h picture from to (buffers distances sites scratch) path broad cells
+      pub lane-after : LaneAfter w h picture from to (buffers distances sites scratch) path broad cells
           (buffers distances′ sites′ (labels ++ drop (w * h) scratch′)) (part ++ drop (w * h) path)
-      lane-left =
+      lane-after =
           record {
             word = at (take (w * h) distances′);
             word-least =
@@ -122,5 +122,5 @@ module _ (w h : ℕ) (picture : List ℕ) (from to : ℕ) where
             marked =
                 λ k l m. List·getD-append part (drop (w * h) path) 0 k (omega (arith, board-long)) ∙ laid .marked k l m;
             path-beyond = front-beyond path part (A .path-from) board-long;
-            map-left = rw scratch-back M;
+            map-after = rw scratch-back M;
           }

@@ -1,18 +1,18 @@
 // The lane entry: the refusals first, then the kind 0 map, and the best lane over the map's words.
-use courses::Course;
-use courses::best_lane;
+use lane_search::Course;
+use lane_search::best_lane;
 use maps::picture_map;
-use refusals::lanes::LaneAsked;
-use refusals::lanes::of_lane;
+use refusals::lane::LaneAsked;
+use refusals::lane::lane_refusal;
 use rules::LaneAnswer;
 ghost use mathlib.Core.Path.{_≡_};
 ghost use lib.ListN.{length};
 ghost use Rattle.rules.specs.Refusals.{answer, lane-rows};
 ghost use Rattle.rules.specs.Answers.{lane-number, lane-width, lane-cells};
-ghost use Rattle.rules.specs.Calls.{buffers, LaneLeft, LaneCall};
+ghost use Rattle.rules.specs.Calls.{buffers, LaneAfter, LaneCall};
 
 // The lane of a call that no row refuses: the kind 0 map, whose own tests then pass too, and the best lane over its words.
-fn lay(
+fn accepted_lane(
     a: LaneAsked,
     picture: &[u8],
     distances: &mut [u32],
@@ -22,7 +22,7 @@ fn lay(
 ) -> Course
     requires { ⌜ answer (lane-rows (a .w) (a .h) (now picture) (a .from) (a .to) (length (now distances))
         (length (now sites)) (length (now scratch)) (length (now path))) ≡ 0 ⌝ }
-    ensures { λ r. ⌜ LaneLeft (a .w) (a .h) (now (picture .entry)) (a .from) (a .to)
+    ensures { λ r. ⌜ LaneAfter (a .w) (a .h) (now (picture .entry)) (a .from) (a .to)
         (buffers (now (distances .entry)) (now (sites .entry)) (now (scratch .entry))) (now (path .entry))
         (r .width) (r .cells)
         (buffers (now (distances .exit)) (now (sites .exit)) (now (scratch .exit))) (now (path .exit)) ⌝ }
@@ -59,7 +59,7 @@ pub fn widest(
         (buffers (now (distances .exit)) (now (sites .exit)) (now (scratch .exit))) (now (path .exit)) ⌝ }
 {
     let a = LaneAsked { w, h, from, to };
-    let refused = of_lane(
+    let refused = lane_refusal(
         a,
         picture,
         distances.len(),
@@ -70,7 +70,7 @@ pub fn widest(
     if refused != 0 {
         return LaneAnswer::Refused(refused);
     }
-    let course = lay(a, picture, distances, sites, scratch, path);
+    let course = accepted_lane(a, picture, distances, sites, scratch, path);
     LaneAnswer::Found {
         width: course.width,
         cells: course.cells,

@@ -1,7 +1,7 @@
 // Random lines, all from one seed.
 use crate::plain::squared;
-use rules::LINE;
-use rules::SIDE;
+use rules::LINE_LIMIT;
+use rules::SIDE_LIMIT;
 ghost use Prim.Native.Nat.{_^_, _≤_, _<_};
 ghost use lib.ListN.{length};
 ghost use Rattle.rules.specs.Limits.{side-limit, line-limit};
@@ -50,13 +50,13 @@ fn value(seed: &mut u64, style: u64, reach: u64) -> u64
         2 => draw(seed, reach + 1),
         3 => squared(draw(seed, reach + 1)),
         // close below the limit
-        4 => LINE - squared(draw(seed, reach + 1)),
+        4 => LINE_LIMIT - squared(draw(seed, reach + 1)),
         // anything up to the limit
-        5 => draw(seed, LINE + 1),
+        5 => draw(seed, LINE_LIMIT + 1),
         // empty columns, which stand at the limit, among small values
         _ => {
             if draw(seed, 2) == 0 {
-                LINE
+                LINE_LIMIT
             } else {
                 draw(seed, reach + 1)
             }
@@ -84,7 +84,7 @@ pub fn some_length(seed: &mut u64) -> usize
     ensures { λ r. ⌜ (1 ≤ r) × (r ≤ side-limit) ⌝ }
 {
     if draw(seed, 40) == 0 {
-        return 1 + draw(seed, SIDE as u64) as usize;
+        return 1 + draw(seed, SIDE_LIMIT as u64) as usize;
     }
     1 + draw(seed, SHORT) as usize
 }

@@ -20,7 +20,7 @@ const SEED: u64 = 20_020_816;
 // How many lines of each kind are tried.
 const LINES: u64 = 10_000;
 // The places of the longest line.
-const SIDE: usize = rules::SIDE as usize;
+const LONGEST: usize = rules::SIDE_LIMIT as usize;
 
 // How many places were looked at, and how many of them had a wrong winner.
 struct Tally {
@@ -50,9 +50,9 @@ fn one_line(kind: u32, seed: &mut u64) -> Tally
     requires { ⌜ kind < 3 ⌝ }
     ensures { λ r. ⌜ Tallied 1 (r .places) (r .wrong) ⌝ }
 {
-    let mut values = [0u64; SIDE];
-    let mut work = [MARK; SIDE + SIDE];
-    let mut winners = [MARK; SIDE];
+    let mut values = [0u64; LONGEST];
+    let mut work = [MARK; LONGEST + LONGEST];
+    let mut winners = [MARK; LONGEST];
     let n = some_length(seed);
     let wrong = try_line(
         kind,

@@ -1,2 +1,2 @@
 pub mod Rows
-pub mod Left
+pub mod After

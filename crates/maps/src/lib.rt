@@ -1,18 +1,18 @@
 // The public picture entry: the refusals first, then the map.
+use board_tests::scratch_words;
 use chamfer::scan_map;
 use columns::sweep;
-use entry::scratch_words;
-use entry::set_front;
 use gauge::Gauge;
 use lines::all_rows;
-use refusals::pictures::PictureAsked;
-use refusals::pictures::of_picture;
+use refusals::picture::PictureAsked;
+use refusals::picture::picture_refusal;
 use rules::MARK;
+use set_words::set_front;
 ghost use Prim.Native.Nat.{ℕ, _<_};
 ghost use lib.ListN.{length};
 ghost use Rattle.rules.specs.Measures.{chamfer-kind};
 ghost use Rattle.rules.specs.Accepted.{PictureAccepted};
-ghost use Rattle.rules.specs.Calls.{buffers, PictureLeft, PictureCall};
+ghost use Rattle.rules.specs.Calls.{buffers, PictureAfter, PictureCall};
 
 mod lines;
 
@@ -28,7 +28,7 @@ fn row_map(
 )
     requires { ⌜ (kind < chamfer-kind)
         × PictureAccepted w h kind 0 0 (now picture) (length (now distances)) (length (now sites)) (length (now scratch)) ⌝ }
-    ensures { λ _. ⌜ ((d1 d2 : ℕ) → PictureLeft w h kind d1 d2 (now (picture .entry))
+    ensures { λ _. ⌜ ((d1 d2 : ℕ) → PictureAfter w h kind d1 d2 (now (picture .entry))
         (buffers (now (distances .entry)) (now (sites .entry)) (now (scratch .entry)))
         (buffers (now (distances .exit)) (now (sites .exit)) (now (scratch .exit)))) ⌝ }
 {
@@ -49,7 +49,7 @@ fn scanned_map(
     scratch: &mut [u32],
 )
     requires { ⌜ PictureAccepted w h chamfer-kind d1 d2 (now picture) (length (now distances)) (length (now sites)) (length (now scratch)) ⌝ }
-    ensures { λ _. ⌜ PictureLeft w h chamfer-kind d1 d2 (now (picture .entry))
+    ensures { λ _. ⌜ PictureAfter w h chamfer-kind d1 d2 (now (picture .entry))
         (buffers (now (distances .entry)) (now (sites .entry)) (now (scratch .entry)))
         (buffers (now (distances .exit)) (now (sites .exit)) (now (scratch .exit))) ⌝ }
 {
@@ -59,7 +59,7 @@ fn scanned_map(
 }
 
 // The map of a picture that has passed the tests.
-fn make(
+fn accepted_map(
     a: PictureAsked,
     picture: &[u8],
     distances: &mut [u32],
@@ -68,7 +68,7 @@ fn make(
 )
     requires { ⌜ PictureAccepted (a .w) (a .h) (a .kind) (a .d1) (a .d2) (now picture) (length (now distances))
         (length (now sites)) (length (now scratch)) ⌝ }
-    ensures { λ _. ⌜ PictureLeft (a .w) (a .h) (a .kind) (a .d1) (a .d2) (now (picture .entry))
+    ensures { λ _. ⌜ PictureAfter (a .w) (a .h) (a .kind) (a .d1) (a .d2) (now (picture .entry))
         (buffers (now (distances .entry)) (now (sites .entry)) (now (scratch .entry)))
         (buffers (now (distances .exit)) (now (sites .exit)) (now (scratch .exit))) ⌝ }
 {
@@ -98,10 +98,10 @@ pub fn picture_map(
         r (buffers (now (distances .exit)) (now (sites .exit)) (now (scratch .exit))) ⌝ }
 {
     let a = PictureAsked { w, h, kind, d1, d2 };
-    let refused = of_picture(a, picture, distances.len(), sites.len(), scratch.len());
+    let refused = picture_refusal(a, picture, distances.len(), sites.len(), scratch.len());
     if refused != 0 {
         return refused;
     }
-    make(a, picture, distances, sites, scratch);
+    accepted_map(a, picture, distances, sites, scratch);
     0
 }

@@ -1,7 +1,7 @@
 // The rows of a map: every row line.
 use gauge::Gauge;
 use rows::row_line;
-use rules::SIDE;
+use rules::SIDE_LIMIT;
 ghost use Prim.Native.Nat.{_+_, _*_, _≤_};
 ghost use lib.ListN.{length};
 ghost use Rattle.rules.specs.Board.{Sides};
@@ -23,7 +23,7 @@ pub fn all_rows(
     ensures { λ _. ⌜ RowsMade g w h h (now (scratch .entry)) (now (scratch .exit)) (now (distances .entry)) (now (distances .exit))
         (now (sites .entry)) (now (sites .exit)) ⌝ }
 {
-    let mut line = [0u64; SIDE as usize];
+    let mut line = [0u64; SIDE_LIMIT as usize];
     let tail = w * h;
     let mut at = 0;
     let mut y = 0;

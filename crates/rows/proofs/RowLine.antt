@@ -21,7 +21,7 @@ use Rattle.rules.proofs.Parts.{part-length, part-at, put-before}
 use Rattle.gauge.specs.declared.Gauge.{Gauge}
 use Rattle.gauge.specs.Line.{measured, Known, Line, Wins, height-at}
 use Rattle.gauge.proofs.Places.{apart-below}
-use Rattle.rows.specs.Row.{Named, value-of, Filled, Chosen, Written, Believed, RowMade}
+use Rattle.rows.specs.Row.{Named, value-of, Filled, Chosen, RowWritten, Believed, RowMade}
 
 -- the value of a marked column, and of one that names a row
 pub marked-value : (g : Gauge) (y : ℕ) {word : ℕ} → word ≡ mark → value-of g y word ≡ line-limit
@@ -132,7 +132,7 @@ module _ {g : Gauge} {words values : List ℕ} {value : ℕ → ℕ} (known : Kn
     -- what is written out is the row's map
     pub row-of : {winners distances sites : List ℕ}
         → ((x : ℕ) → x < length values → Wins (height-at g values) (length values) x (getD winners x 0))
-        → Written g words values winners distances sites → (x : ℕ) → x < length values
+        → RowWritten g words values winners distances sites → (x : ℕ) → x < length values
         → RowWord (length values) (measured g .combine) (λ i. getD words i 0) value x (getD distances x 0) (getD sites x 0)
     unfolding height-at
     row-of {winners} W O x h =
@@ -217,7 +217,7 @@ module _ {g : Gauge} {y at tail w : ℕ} {scratch : List ℕ} (B : Believed g y 
   pub row-made : {values winners distances sites : List ℕ} (part : List ℕ) → length values ≡ w
       → Filled g y (words-part at w scratch) values
       → ((x : ℕ) → x < length values → Wins (height-at g values) (length values) x (getD winners x 0))
-      → Written g (words-part at w scratch) values winners distances sites
+      → RowWritten g (words-part at w scratch) values winners distances sites
       → length part ≡ length (take (tail + w + w - tail) (drop tail scratch))
       → RowMade g y at tail w scratch (putMid tail (tail + w + w - tail) scratch part) distances sites
   row-made {values} {winners} {distances} {sites} part long F W O room =

@@ -31,7 +31,7 @@ pub record Chosen (g : Gauge) (words values winners : List ℕ) : Type 0 where
   pub small : (x : ℕ) → x < length values → height-at g values (getD winners x 0) x < 2 ^ 32
 
 -- the row written out from its winners
-pub record Written (g : Gauge) (words values winners distances sites : List ℕ) : Type 0 where
+pub record RowWritten (g : Gauge) (words values winners distances sites : List ℕ) : Type 0 where
   pub word : (x : ℕ) → x < length values → getD distances x 0 ≡ height-at g values (getD winners x 0) x
   pub site : (x : ℕ) → x < length values
       → getD sites x 0 ≡ cell (length words) (getD winners x 0) (getD words (getD winners x 0) 0)

@@ -6,16 +6,16 @@ use gauge::Gauge;
 use gauge::apart;
 use gauge::height;
 use gauge::lifted;
-use rules::LINE;
+use rules::LINE_LIMIT;
 use rules::MARK;
-use rules::wide;
+use rules::as_index;
 ghost use Prim.Native.Nat.{ℕ, _^_, _≤_, _<_};
 ghost use mathlib.Core.Path.{_≡_};
 ghost use lib.ListN.{length, getD};
 ghost use Rattle.rules.specs.Limits.{side-limit};
 ghost use Rattle.rules.specs.Board.{cell};
 ghost use Rattle.gauge.specs.Line.{Known, Line, height-at};
-ghost use Rattle.rows.specs.Row.{Named, value-of, Filled, Chosen, Written, Believed, RowMade};
+ghost use Rattle.rows.specs.Row.{Named, value-of, Filled, Chosen, RowWritten, Believed, RowMade};
 
 // What a column word stands for in row y: its difference of rows lifted, or a value above every true one for a column with
 // no feature.
@@ -24,9 +24,9 @@ fn value(g: Gauge, y: usize, word: u32) -> u64
     ensures { λ r. ⌜ r ≡ value-of g y word ⌝ }
 {
     if word == MARK {
-        return LINE;
+        return LINE_LIMIT;
     }
-    lifted(g, apart(y, wide(word)))
+    lifted(g, apart(y, as_index(word)))
 }
 
 // Fill for pictures: the values of row y from its words.
@@ -55,19 +55,19 @@ fn site_word(w: usize, i: usize, word: u32) -> u32
     requires { ⌜ (w ≤ side-limit) × (i < w) × (word < side-limit) ⌝ }
     ensures { λ r. ⌜ r ≡ cell w i word ⌝ }
 {
-    (wide(word) * w + i) as u32
+    (as_index(word) * w + i) as u32
 }
 
 // Write-out: the height of each place's winner, and the cell that the winner's word names. `sites` holds the winners.
 pub fn write_out(g: Gauge, words: &[u32], values: &[u64], distances: &mut [u32], sites: &mut [u32])
     requires { ⌜ Known g × Line (now values) × Chosen g (now words) (now values) (now sites)
         × (length (now words) ≡ length (now values)) × (length (now distances) ≡ length (now values)) × (length (now sites) ≡ length (now values)) ⌝ }
-    ensures { λ _. ⌜ Written g (now (words .entry)) (now (values .entry)) (now (sites .entry)) (now (distances .exit)) (now (sites .exit)) ⌝ }
+    ensures { λ _. ⌜ RowWritten g (now (words .entry)) (now (values .entry)) (now (sites .entry)) (now (distances .exit)) (now (sites .exit)) ⌝ }
 {
     let w = values.len();
     let mut x = 0;
     while x < w {
-        let i = wide(sites[x]);
+        let i = as_index(sites[x]);
         distances[x] = map_word(g, values, i, x);
         sites[x] = site_word(w, i, words[i]);
         x += 1;

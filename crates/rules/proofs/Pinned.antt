@@ -35,7 +35,7 @@ use Rattle.rules.specs.Lane.{Lane}
 use Rattle.rules.specs.Limits.{bench-side}
 use Rattle.rules.specs.BenchFile.{bored-by, bores, text}
 use Rattle.rules.specs.Refusals.{Row}
-use Rattle.rules.specs.Calls.{Call, Buffers, Beyond, MapLeft, SiteWord, PictureLeft, LaneLeft, ClearLeft, BenchRead}
+use Rattle.rules.specs.Calls.{Call, Buffers, Beyond, MapAfter, SiteWord, PictureAfter, LaneAfter, ClearAfter, BenchRead}
 use Rattle.rules.specs.Calls.{PictureCall, CostCall, LaneCall, OpeningCall, ClearCall, ChangeoverCall, BenchCall, BenchPrints}
 use Rattle.rules.specs.Answers.{opening-number, opening-a, opening-b, changeover-number, changeover-at}
 use Rattle.rules.specs.Answers.{lane-number, lane-width, lane-cells}
@@ -61,10 +61,10 @@ settled {n = n} same kept kept′ done =
     by-cases (ℕ-discrete n 0) done (λ z. kept z ∙ sym (kept′ (λ e. z (same ∙ e))))
 
 -- so two calls whose refusals keep one list answer one number and leave that list in one way
-left-pinned : {A : Type 0} {rows : List Row} {n n′ : ℕ} {before after after′ : A} {Done Done′ : Type 0}
+after-pinned : {A : Type 0} {rows : List Row} {n n′ : ℕ} {before after after′ : A} {Done Done′ : Type 0}
     → Call rows n (after ≡ before) Done → Call rows n′ (after′ ≡ before) Done′ → (Done → Done′ → after ≡ after′)
     → (n ≡ n′) × (after ≡ after′)
-left-pinned p q one =
+after-pinned p q one =
     let (same, left) = agreed p q one in
     (same, settled same (p .refused) (q .refused) left)
 
@@ -97,7 +97,7 @@ board-pinned {w} {a = a} {b = b} one p words q words′ =
 
 -- where each cell has one map word and one site word, an accepted call leaves the three buffers in one way
 pub map-pinned : {w h : ℕ} {Word Named : ℕ → ℕ → ℕ → Type 0} {before after after′ : Buffers}
-    → One w h Word → One w h Named → MapLeft w h Word Named before after → MapLeft w h Word Named before after′
+    → One w h Word → One w h Named → MapAfter w h Word Named before after → MapAfter w h Word Named before after′
     → after ≡ after′
 map-pinned word named p q =
     let distances = board-pinned word (p .distances-beyond) (p .words) (q .distances-beyond) (q .words) in
@@ -114,38 +114,38 @@ site-word-unique {kind} a b =
     (λ e. map-site-unique (a .named e) (b .named e))
 
 -- an accepted picture call leaves the buffers in one way
-picture-left-pinned : {w h kind d1 d2 : ℕ} {picture : List ℕ} {before after after′ : Buffers}
-    → PictureLeft w h kind d1 d2 picture before after → PictureLeft w h kind d1 d2 picture before after′
+picture-after-pinned : {w h kind d1 d2 : ℕ} {picture : List ℕ} {before after after′ : Buffers}
+    → PictureAfter w h kind d1 d2 picture before after → PictureAfter w h kind d1 d2 picture before after′
     → after ≡ after′
-picture-left-pinned p q = map-pinned (λ x y d d′ l m. least-unique) (λ x y s s′ l m. site-word-unique) p q
+picture-after-pinned p q = map-pinned (λ x y d d′ l m. least-unique) (λ x y s s′ l m. site-word-unique) p q
 
 -- a picture call answers one number and leaves the buffers in one way
 pub picture-pinned : {w h kind d1 d2 : ℕ} {picture : List ℕ} {before after after′ : Buffers} {n n′ : ℕ}
     → PictureCall w h kind d1 d2 picture before n after → PictureCall w h kind d1 d2 picture before n′ after′
     → (n ≡ n′) × (after ≡ after′)
-picture-pinned p q = left-pinned p q picture-left-pinned
+picture-pinned p q = after-pinned p q picture-after-pinned
 
 -- a cost call answers one number and leaves the buffers in one way
 pub cost-pinned : {w h kind : ℕ} {costs : List ℕ} {before after after′ : Buffers} {n n′ : ℕ}
     → CostCall w h kind costs before n after → CostCall w h kind costs before n′ after′
     → (n ≡ n′) × (after ≡ after′)
 cost-pinned p q =
-    left-pinned p q (map-pinned (λ x y d d′ l m. least-unique) (λ x y s s′ l m. cost-map-site-unique))
+    after-pinned p q (map-pinned (λ x y d d′ l m. least-unique) (λ x y s s′ l m. cost-map-site-unique))
 
 -- an accepted lane call finds one width and one number of cells, and leaves the path and the buffers in one way
-lane-left-pinned : {w h : ℕ} {picture : List ℕ} {from to : ℕ} {before after after′ : Buffers}
+lane-after-pinned : {w h : ℕ} {picture : List ℕ} {from to : ℕ} {before after after′ : Buffers}
     {path exit exit′ : List ℕ} {broad broad′ cells cells′ : ℕ}
-    → LaneLeft w h picture from to before path broad cells after exit
-    → LaneLeft w h picture from to before path broad′ cells′ after′ exit′
+    → LaneAfter w h picture from to before path broad cells after exit
+    → LaneAfter w h picture from to before path broad′ cells′ after′ exit′
     → (broad ≡ broad′) × (cells ≡ cells′) × (after ≡ after′) × (exit ≡ exit′)
-lane-left-pinned {w} {h} {exit = exit} {exit′ = exit′} {cells = cells} {cells′ = cells′} p q =
+lane-after-pinned {w} {h} {exit = exit} {exit′ = exit′} {cells = cells} {cells′ = cells′} p q =
     let words : (c : ℕ) → c < w * h → p .word c ≡ q .word c =
     each-cell w _ (λ x y l m. least-unique (p .word-least x y l m) (q .word-least x y l m)) in
     let (lane, broad) = best-unique-words words (p .best) (q .best) in
     let same : cells ≡ cells′ = sym (p .cells-is) ∙ ap length lane ∙ q .cells-is in (
       p .width-is ∙ broad ∙ sym (q .width-is),
       same,
-      picture-left-pinned (p .map-left) (q .map-left),
+      picture-after-pinned (p .map-after) (q .map-after),
       lists-pinned (p .path-beyond) (q .path-beyond) (path lane same),
     )
   where
@@ -162,7 +162,7 @@ pub lane-pinned : {w h : ℕ} {picture : List ℕ} {from to : ℕ} {before after
     → LaneCall w h picture from to before path n′ broad′ cells′ after′ exit′
     → (n ≡ n′) × (after ≡ after′) × (exit ≡ exit′) × (n ≡ 0 → (broad ≡ broad′) × (cells ≡ cells′))
 lane-pinned p q =
-    let (same, one) = agreed p q lane-left-pinned in (
+    let (same, one) = agreed p q lane-after-pinned in (
       same,
       settled same (λ z. p .refused z .0) (λ z. q .refused z .0) (λ z. one z .2),
       settled same (λ z. p .refused z .1) (λ z. q .refused z .1) (λ z. one z .3),
@@ -175,9 +175,9 @@ pub opening-pinned : {s : Setting} {n n′ a a′ b b′ : ℕ} → OpeningCall 
 opening-pinned p q = agreed p q opened-unique
 
 -- over slices of one length an accepted clear map call leaves the bytes in one way
-clear-left-pinned : {s : Setting} {squares clear exit exit′ : List ℕ}
-    → ClearLeft s squares clear exit → ClearLeft s squares clear exit′ → length squares ≡ length clear → exit ≡ exit′
-clear-left-pinned {squares = squares} {exit = exit} {exit′ = exit′} p q long =
+clear-after-pinned : {s : Setting} {squares clear exit exit′ : List ℕ}
+    → ClearAfter s squares clear exit → ClearAfter s squares clear exit′ → length squares ≡ length clear → exit ≡ exit′
+clear-after-pinned {squares = squares} {exit = exit} {exit′ = exit′} p q long =
     let (a, b) = opened-unique (p .opened) (q .opened) in
     ext-getD 0 exit exit′ (p .as-long ∙ sym (q .as-long))
     (λ k l. let inside : k < length squares = omega arith in cc (p .bytes k inside, q .bytes k inside))
@@ -186,7 +186,7 @@ clear-left-pinned {squares = squares} {exit = exit} {exit′ = exit′} p q long
 pub clear-pinned : {s : Setting} {squares clear exit exit′ : List ℕ} {n n′ : ℕ}
     → ClearCall s squares clear n exit → ClearCall s squares clear n′ exit′ → (n ≡ n′) × (exit ≡ exit′)
 clear-pinned {s} {squares} {clear} p q =
-    let (same, one) = agreed p q clear-left-pinned in
+    let (same, one) = agreed p q clear-after-pinned in
     let accepted = clear-accepted s (length squares) (length clear) in
     (same, settled same (p .refused) (q .refused) (λ z. one z (accepted (sym (p .answered) ∙ z) .slices .as-long)))
 
@@ -229,7 +229,7 @@ changeover-answer-pinned NoChangeover NoChangeover c e = refl
 
 -- a lane that was found has a cell
 pub cells-not-zero : {w h : ℕ} {picture : List ℕ} {from to : ℕ} {before after : Buffers} {path exit : List ℕ} {broad : ℕ}
-    → LaneLeft w h picture from to before path broad 0 after exit → ⊥
+    → LaneAfter w h picture from to before path broad 0 after exit → ⊥
 unfolding Lane
 cells-not-zero l = l .best .lane
 

@@ -29,7 +29,7 @@ use Rattle.rules.specs.BenchFile.{bored-by}
 pub use Rattle.rules.specs.Accepted.{Lent, Slices, Bytes, Costs, Comparable, Somewhere, PictureAccepted, CostAccepted, LaneAccepted, ClearAccepted, FileAccepted}
 use Rattle.rules.specs.Refusals.{Row, row, answer, any}
 use Rattle.rules.specs.Refusals.{bad-sides, bad-kind, bad-weights, bad-buffers, bad-path, bad-slices, bad-byte}
-use Rattle.rules.specs.Refusals.{bad-cost, no-bore, all-marked, bad-ends, bad-setting, bad-changeover, bad-file}
+use Rattle.rules.specs.Refusals.{bad-cost, no-bore, all-marked, bad-ends, bad-setting, bad-changeover, bad-length}
 use Rattle.rules.specs.Refusals.{picture-rows, cost-rows, lane-rows, clear-rows, opening-rows, changeover-rows}
 use Rattle.rules.specs.Refusals.{file-rows}
 use Rattle.rules.proofs.BenchFile.{bored-length}
@@ -352,13 +352,13 @@ unfolding bad-changeover
 changeover-good i u a b c = search makes
 
 -- row 10 does not hold: the length of the file is a multiple of 4, and not over the limit
-pub file-passes : (n : ℕ) → bad-file n ≡ false → (n % 4 ≡ 0) × (n ≤ file-limit)
-unfolding bad-file
+pub file-passes : (n : ℕ) → bad-length n ≡ false → (n % 4 ≡ 0) × (n ≤ file-limit)
+unfolding bad-length
 file-passes n e = search reads
 
 -- of such a length row 10 does not hold
-pub file-good : (n : ℕ) → (n % 4 ≡ 0) × (n ≤ file-limit) → bad-file n ≡ false
-unfolding bad-file
+pub file-good : (n : ℕ) → (n % 4 ≡ 0) × (n ≤ file-limit) → bad-length n ≡ false
+unfolding bad-length
 file-good n p = search makes
 
 -- within a list it does not matter what stands for the words beyond it

@@ -25,7 +25,7 @@ use Rattle.rules.specs.Changeover.{Changeover, numerator, divisor, floor
 use Rattle.rules.specs.Knob.{clear-byte}
 use Rattle.rules.specs.Refusals.{some}
 use Rattle.rules.specs.Samples.{Sample, picture-cell, cost-distances, cost-sites, change, clear, lane}
-use Rattle.rules.specs.Samples.{LaneHolds, Holds, starred, Shown}
+use Rattle.rules.specs.Samples.{LaneHolds, SampleHolds, starred, Shown}
 use Rattle.rules.proofs.Board.{cell-of}
 use Rattle.rules.proofs.Order.{comes-before, comes-before-means, every, every-means}
 use Rattle.rules.proofs.TieRule.{first-is-site, first-is-cost-site}
@@ -216,7 +216,7 @@ passes (lane w h picture from to broad cells words labels wider) =
     goes w h picture from to broad cells words labels wider
 
 -- a sample that passes holds
-sound : (s : Sample) → T (passes s) → Holds s
+sound : (s : Sample) → T (passes s) → SampleHolds s
 sound (picture-cell w h kind picture x y d site) t =
     (map-word-means w h kind picture x y d (search parts), map-site-means w h kind picture x y site (search parts))
 sound (cost-distances w h kind costs words) t = λ x y l m.

@@ -1,7 +1,7 @@
 -- The closed form of kind 3 is the least weight of a walk by the steps of 003's table. No walk weighs less: with
 -- e = d2 − d1 and f = 2·d1 − d2, which the bounds of the weights keep at 0 or more, the closed form is
 -- f·max(dx, dy) + e·(dx + dy), so it grows by no more than the closed form of what dx and dy grow by; and the weight
--- of an entry of the table is the closed form of its own two steps. Some walk weighs just that: let the last step into
+-- of a step of the table is the closed form of its own two steps. Some walk weighs just that: let the last step into
 -- a cell go in the direction of the larger difference, or in both directions where the two are equal. Then the lesser
 -- difference before the step and the lesser one of the step itself add up, and the closed forms do too. Such a walk
 -- takes min(dx, dy) slanted steps and then max − min straight ones, and stays between its two ends, so on the board.
@@ -21,7 +21,7 @@ use Rattle.rules.specs.Table.{step, back, none, on, steps, weight, Leads
 use Rattle.rules.specs.declared.Step.{Step}
 
 -- A walk from the cell (i, j) over a board of w columns and h rows, with the cell that it ends in and what its steps
--- weigh together: each step is an entry of the table and leads to a cell of the board.
+-- weigh together: each step is one of the table and leads to a cell of the board.
 pub data Walk (w h d1 d2 i j : ℕ) : ℕ → ℕ → ℕ → Type 0 where
   start : Walk w h d1 d2 i j i j 0
   further : {x y x′ y′ t : ℕ} {s : Step}
@@ -38,9 +38,9 @@ listed [] n z h = absurd (not-suc-le-zero h)
 listed (s ∷ l) zero z h = List·Memᴰ·head refl
 listed (s ∷ l) (suc n) z h = List·Memᴰ·tail (listed l n z (le-of-suc-le-suc h))
 
--- the table's entries are its readings at 0 to 7, whatever z is read past its end
-pub entry : (n : ℕ) (z : Step) → n < 8 → List·Memᴰ (getD steps n z) steps
-entry = listed steps
+-- the table's steps are its readings at 0 to 7, whatever z is read past its end
+pub step-listed : (n : ℕ) (z : Step) → n < 8 → List·Memᴰ (getD steps n z) steps
+step-listed = listed steps
 
 -- the closed form by the lesser difference and both together
 by-lesser : (d1 d2 dx dy : ℕ) → chamfer d1 d2 dx dy + 2 * (d1 * min dx dy) ≡ d2 * min dx dy + d1 * (dx + dy)
@@ -97,7 +97,7 @@ each P (List·Memᴰ·tail m) a = each P m (a .1)
 abbrev own : ℕ → ℕ → Step → ℕ
 own d1 d2 s = chamfer d1 d2 (natAbs (s .1)) (natAbs (s .0))
 
--- for an entry of the table that is its weight
+-- for a step of the table that is its weight
 weighs : (d1 d2 : ℕ) {s : Step} → List·Memᴰ s steps → weight d1 d2 (s .2) ≡ own d1 d2 s
 unfolding chamfer
 weighs d1 d2 m = each (λ s. weight d1 d2 (s .2) ≡ own d1 d2 s) m (omega arith)
@@ -154,7 +154,7 @@ turned onward = on
 abbrev size : Turn → ℕ
 size t = natAbs (turned t)
 
--- how an entry is found in the table
+-- how a step is found in the table
 ruleset in-table = (List·Memᴰ·head, List·Memᴰ·tail)
 
 -- the table has every pair of turns but the one that stays in its cell

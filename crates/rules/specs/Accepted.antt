@@ -10,7 +10,7 @@ use Rattle.rules.specs.declared.Setting.{Setting}
 use Rattle.rules.specs.Limits.{mark, cost-limit, column-limit, value-limit, clear-limit, file-limit, bench-side}
 use Rattle.rules.specs.Board.{Sides, Bored, Unmarked}
 use Rattle.rules.specs.Measures.{Weights, chamfer-kind}
-use Rattle.rules.specs.BenchFile.{bored-by, outside}
+use Rattle.rules.specs.BenchFile.{bored-by, off-board}
 use Rattle.rules.specs.Refusals.{scratch-words, bad-setting}
 
 -- what a map call is lent: a picture of W·H words, and no buffer below its minimum
@@ -81,5 +81,5 @@ pub record ClearAccepted (s : Setting) (squares clear : ℕ) : Type 0 where
 pub record FileAccepted (bytes : List ℕ) : Type 0 where
   pub whole : length bytes % 4 ≡ 0
   pub length-to : length bytes ≤ file-limit
-  pub inside : outside bytes ≡ false
+  pub inside : off-board bytes ≡ false
   pub bored : Somewhere bench-side bench-side (Bored bench-side (bored-by bytes))

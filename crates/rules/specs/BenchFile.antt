@@ -28,12 +28,12 @@ abbrev pub bored-by : List ℕ → List ℕ
 bored-by bytes = bore-all bytes (replicate (bench-side * bench-side) 0)
 
 -- 11: "a file coordinate above 63"
-abbrev pub outside : List ℕ → Bool
-outside [] = false
-outside (a ∷ []) = false
-outside (a ∷ b ∷ []) = false
-outside (a ∷ b ∷ c ∷ []) = false
-outside (a ∷ b ∷ c ∷ d ∷ rest) = leb bench-side (u16-of a b) || leb bench-side (u16-of c d) || outside rest
+abbrev pub off-board : List ℕ → Bool
+off-board [] = false
+off-board (a ∷ []) = false
+off-board (a ∷ b ∷ []) = false
+off-board (a ∷ b ∷ c ∷ []) = false
+off-board (a ∷ b ∷ c ∷ d ∷ rest) = leb bench-side (u16-of a b) || leb bench-side (u16-of c d) || off-board rest
 
 -- `sites`: how many cells are bored
 abbrev pub bores : List ℕ → ℕ

@@ -47,7 +47,7 @@ pub record Beyond (n : ℕ) (before after : List ℕ) : Type 0 where
 -- "On acceptance the first W·H distance and site words hold the map and the scratch words counted above are zero. Words
 -- beyond these minimum lengths are untouched.": `Word x y d` says that d is the map word of (x, y), `Named x y s` that s
 -- is its site word
-pub record MapLeft (w h : ℕ) (Word Named : ℕ → ℕ → ℕ → Type 0) (before after : Buffers) : Type 0 where
+pub record MapAfter (w h : ℕ) (Word Named : ℕ → ℕ → ℕ → Type 0) (before after : Buffers) : Type 0 where
   pub words : (x y : ℕ) → x < w → y < h → Word x y (getD (after .distances) (cell w x y) 0)
   pub names : (x y : ℕ) → x < w → y < h → Named x y (getD (after .sites) (cell w x y) 0)
   pub zeroed : (k : ℕ) → k < scratch-words w h → getD (after .scratch) k 0 ≡ 0
@@ -61,26 +61,26 @@ pub record SiteWord (kind d1 d2 w h : ℕ) (picture : List ℕ) (x y site : ℕ)
   pub unnamed : kind ≡ chamfer-kind → site ≡ mark
 
 -- what an accepted map call leaves
-abbrev pub PictureLeft : ℕ → ℕ → ℕ → ℕ → ℕ → List ℕ → Buffers → Buffers → Type 0
-PictureLeft w h kind d1 d2 picture before after =
-    MapLeft w h (MapWord kind d1 d2 w h picture) (SiteWord kind d1 d2 w h picture) before after
+abbrev pub PictureAfter : ℕ → ℕ → ℕ → ℕ → ℕ → List ℕ → Buffers → Buffers → Type 0
+PictureAfter w h kind d1 d2 picture before after =
+    MapAfter w h (MapWord kind d1 d2 w h picture) (SiteWord kind d1 d2 w h picture) before after
 
 -- the picture entry
 abbrev pub PictureCall : ℕ → ℕ → ℕ → ℕ → ℕ → List ℕ → Buffers → ℕ → Buffers → Type 0
 PictureCall w h kind d1 d2 picture before number after =
     Call
     (picture-rows w h kind d1 d2 picture (length (before .distances)) (length (before .sites)) (length (before .scratch)))
-    number (after ≡ before) (PictureLeft w h kind d1 d2 picture before after)
+    number (after ≡ before) (PictureAfter w h kind d1 d2 picture before after)
 
 -- the cost entry
 abbrev pub CostCall : ℕ → ℕ → ℕ → List ℕ → Buffers → ℕ → Buffers → Type 0
 CostCall w h kind costs before number after =
     Call (cost-rows w h kind costs (length (before .distances)) (length (before .sites)) (length (before .scratch)))
-    number (after ≡ before) (MapLeft w h (CostMapWord kind w h costs) (CostMapSite kind w h costs) before after)
+    number (after ≡ before) (MapAfter w h (CostMapWord kind w h costs) (CostMapSite kind w h costs) before after)
 
 -- "The first L path words hold it, the rest up to W·H the mark, path words beyond stay, and the other buffers are as
 -- after a kind 0 map call.": `word` is demand 2's least distance of each cell, and no stored word
-pub record LaneLeft (w h : ℕ) (picture : List ℕ) (from to : ℕ) (before : Buffers) (path : List ℕ) (broad cells : ℕ) (after : Buffers) (path′ : List ℕ) : Type 0 where
+pub record LaneAfter (w h : ℕ) (picture : List ℕ) (from to : ℕ) (before : Buffers) (path : List ℕ) (broad cells : ℕ) (after : Buffers) (path′ : List ℕ) : Type 0 where
   pub word : ℕ → ℕ
   pub word-least : (x y : ℕ) → x < w → y < h → MapWord 0 0 0 w h picture x y (word (cell w x y))
   pub best : Best w h word from to (take cells path′)
@@ -88,14 +88,14 @@ pub record LaneLeft (w h : ℕ) (picture : List ℕ) (from to : ℕ) (before : B
   pub cells-is : length (take cells path′) ≡ cells
   pub marked : (k : ℕ) → cells ≤ k → k < w * h → getD path′ k 0 ≡ mark
   pub path-beyond : Beyond (w * h) path path′
-  pub map-left : PictureLeft w h 0 0 0 picture before after
+  pub map-after : PictureAfter w h 0 0 0 picture before after
 
 -- the lane entry
 abbrev pub LaneCall : ℕ → ℕ → List ℕ → ℕ → ℕ → Buffers → List ℕ → ℕ → ℕ → ℕ → Buffers → List ℕ → Type 0
 LaneCall w h picture from to before path number broad cells after path′ =
     Call
     (lane-rows w h picture from to (length (before .distances)) (length (before .sites)) (length (before .scratch)) (length path))
-    number ((after ≡ before) × (path′ ≡ path)) (LaneLeft w h picture from to before path broad cells after path′)
+    number ((after ≡ before) × (path′ ≡ path)) (LaneAfter w h picture from to before path broad cells after path′)
 
 -- a setting opened to the whole numbers a and b
 pub record Opened (s : Setting) (a b : ℕ) : Type 0 where
@@ -107,7 +107,7 @@ abbrev pub OpeningCall : Setting → ℕ → ℕ → ℕ → Type 0
 OpeningCall s number a b = AnswerOnly (opening-rows s) number (Opened s a b)
 
 -- "an equally long byte slice, whose every byte becomes 1 where d·a² ≥ b², else 0"
-pub record ClearLeft (s : Setting) (squares clear clear′ : List ℕ) : Type 0 where
+pub record ClearAfter (s : Setting) (squares clear clear′ : List ℕ) : Type 0 where
   pub a : ℕ
   pub b : ℕ
   pub opened : Opened s a b
@@ -117,7 +117,7 @@ pub record ClearLeft (s : Setting) (squares clear clear′ : List ℕ) : Type 0 
 -- the clear map entry
 abbrev pub ClearCall : Setting → List ℕ → List ℕ → ℕ → List ℕ → Type 0
 ClearCall s squares clear number clear′ =
-    Call (clear-rows s (length squares) (length clear)) number (clear′ ≡ clear) (ClearLeft s squares clear clear′)
+    Call (clear-rows s (length squares) (length clear)) number (clear′ ≡ clear) (ClearAfter s squares clear clear′)
 
 -- the changeover entry
 abbrev pub ChangeoverCall : ℕ → ℕ → ℕ → ℕ → ℕ → ℤ → Type 0

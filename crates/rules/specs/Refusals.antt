@@ -10,7 +10,7 @@ use Rattle.rules.specs.declared.Setting.{Setting}
 use Rattle.rules.specs.Limits.{side-limit, mark, cost-limit, weight-limit, column-limit, value-limit, knob-limit, clear-limit, file-limit}
 use Rattle.rules.specs.Measures.{chamfer-kind}
 use Rattle.rules.specs.Knob.{pitch-word, radius-word, good-word}
-use Rattle.rules.specs.BenchFile.{bored-by, outside}
+use Rattle.rules.specs.BenchFile.{bored-by, off-board}
 
 -- one row of the table: its number, and whether it holds of the inputs
 pub record Row : Type 0 where
@@ -95,8 +95,8 @@ unfoldable pub bad-changeover : ℕ → ℕ → ℕ → ℕ → Bool
 bad-changeover i u a b = leb u i || ltb column-limit u || ltb value-limit a || ltb value-limit b
 
 -- 10: "file length not a multiple of 4, or over 16,384 bytes"
-unfoldable pub bad-file : ℕ → Bool
-bad-file bytes = not (eqb (bytes % 4) 0) || ltb file-limit bytes
+unfoldable pub bad-length : ℕ → Bool
+bad-length bytes = not (eqb (bytes % 4) 0) || ltb file-limit bytes
 
 -- "Pictures test 1 to 6"
 abbrev pub picture-rows : ℕ → ℕ → ℕ → ℕ → ℕ → List ℕ → ℕ → ℕ → ℕ → List Row
@@ -144,4 +144,4 @@ changeover-rows i u a b = row 9 (bad-changeover i u a b) ∷ []
 -- "except that the file program tests 10, 11, 6"
 abbrev pub file-rows : List ℕ → List Row
 file-rows bytes =
-    row 10 (bad-file (length bytes)) ∷ row 11 (outside bytes) ∷ row 6 (no-bore (bored-by bytes)) ∷ []
+    row 10 (bad-length (length bytes)) ∷ row 11 (off-board bytes) ∷ row 6 (no-bore (bored-by bytes)) ∷ []

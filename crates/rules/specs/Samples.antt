@@ -35,16 +35,16 @@ pub record LaneHolds (w h : ℕ) (picture : List ℕ) (from to broad : ℕ) (cel
   pub width-is : broad ≡ width word cells
 
 -- what a sample says of the rules
-abbrev pub Holds : Sample → Type 0
-Holds (picture-cell w h kind picture x y d site) =
+abbrev pub SampleHolds : Sample → Type 0
+SampleHolds (picture-cell w h kind picture x y d site) =
     MapWord kind 0 0 w h picture x y d × MapSite kind 0 0 w h picture x y site
-Holds (cost-distances w h kind costs words) =
+SampleHolds (cost-distances w h kind costs words) =
     (x y : ℕ) → x < w → y < h → CostMapWord kind w h costs x y (getD words (cell w x y) 0)
-Holds (cost-sites w h kind costs sites) =
+SampleHolds (cost-sites w h kind costs sites) =
     (x y : ℕ) → x < w → y < h → CostMapSite kind w h costs x y (getD sites (cell w x y) 0)
-Holds (change i u a b p) = Changeover i u a b p
-Holds (clear a b d byte) = clear-byte a b d ≡ byte
-Holds (lane w h picture from to broad cells words labels wider) = LaneHolds w h picture from to broad cells
+SampleHolds (change i u a b p) = Changeover i u a b p
+SampleHolds (clear a b d byte) = clear-byte a b d ≡ byte
+SampleHolds (lane w h picture from to broad cells words labels wider) = LaneHolds w h picture from to broad cells
 
 -- the starred lines, in 01's order
 abbrev pub starred : List Sample
@@ -90,4 +90,4 @@ starred =
 -- the one claim: every entry of a list of samples holds
 abbrev pub Shown : List Sample → Type 0
 Shown [] = Unit {0}
-Shown (s ∷ ss) = Holds s × Shown ss
+Shown (s ∷ ss) = SampleHolds s × Shown ss

@@ -4,27 +4,27 @@ ghost use mathlib.Core.Path.{_≡_};
 ghost use Rattle.rules.specs.Limits.{Stated};
 
 // "Width W and height H are each 1 to 512."
-pub const SIDE: u32 = 512;
+pub const SIDE_LIMIT: u32 = 512;
 // "the mark 4,294,967,295, meaning no feature"
 pub const MARK: u32 = 4_294_967_295;
 // "a cost of 0 to 1,000,000"
-pub const COST: u32 = 1_000_000;
+pub const COST_LIMIT: u32 = 1_000_000;
 // "d1 from 1 to 255"
-pub const WEIGHT: u32 = 255;
+pub const WEIGHT_LIMIT: u32 = 255;
 // The changeover's "columns 0 to 511".
-pub const COLUMN: u32 = 511;
+pub const COLUMN_LIMIT: u32 = 511;
 // The changeover's "values a, b of 0 to 2,000,000".
-pub const VALUE: u32 = 2_000_000;
+pub const VALUE_LIMIT: u32 = 2_000_000;
 // "a whole number from 1 to 4,096"
-pub const KNOB: u32 = 4_096;
+pub const KNOB_LIMIT: u32 = 4_096;
 // "clear-map slices .. over 262,144"
-pub const CLEAR: usize = 262_144;
+pub const CLEAR_LIMIT: usize = 262_144;
 // "a 64 by 64 board"
 pub const BENCH_SIDE: u32 = 64;
 // "over 16,384 bytes"
-pub const FILE: usize = 16_384;
+pub const FILE_LIMIT: usize = 16_384;
 // The greatest value that the engine along a line takes: ours, far above every true word.
-pub const LINE: u64 = 1_125_899_906_842_624;
+pub const LINE_LIMIT: u64 = 1_125_899_906_842_624;
 
 // All of them in one value, which is proved to be what the rules say.
 pub struct LimitTable {
@@ -45,22 +45,22 @@ pub fn limits() -> LimitTable
     ensures { λ r. ⌜ Stated r ⌝ }
 {
     LimitTable {
-        side: SIDE,
+        side: SIDE_LIMIT,
         mark: MARK,
-        cost: COST,
-        weight: WEIGHT,
-        column: COLUMN,
-        value: VALUE,
-        knob: KNOB,
-        clear: CLEAR,
+        cost: COST_LIMIT,
+        weight: WEIGHT_LIMIT,
+        column: COLUMN_LIMIT,
+        value: VALUE_LIMIT,
+        knob: KNOB_LIMIT,
+        clear: CLEAR_LIMIT,
         bench_side: BENCH_SIDE,
-        file: FILE,
-        line: LINE,
+        file: FILE_LIMIT,
+        line: LINE_LIMIT,
     }
 }
 
 // A stored word as an index of a list.
-pub fn wide(word: u32) -> usize
+pub fn as_index(word: u32) -> usize
     ensures { λ r. ⌜ r ≡ word ⌝ }
 {
     word as usize

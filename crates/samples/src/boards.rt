@@ -10,13 +10,13 @@ ghost use Prim.Native.Nat.{_≤_};
 ghost use Rattle.rules.specs.Limits.{side-limit};
 
 // The side of the largest board.
-const SIDE: usize = rules::SIDE as usize;
+const LARGEST: usize = rules::SIDE_LIMIT as usize;
 // Its cells.
-const CELLS: usize = SIDE * SIDE;
+const CELLS: usize = LARGEST * LARGEST;
 // Its scratch words.
-const SCRATCH: usize = CELLS + 2 * SIDE + 2 * SIDE;
+const SCRATCH: usize = CELLS + 2 * LARGEST + 2 * LARGEST;
 // The cells of the longest of the other boards, a line with one cell too many: enough for every other.
-const LINE: usize = SIDE + 1;
+const LINE: usize = LARGEST + 1;
 // Its scratch words.
 const LINE_SCRATCH: usize = LINE + 2 * LINE + 2;
 
@@ -129,7 +129,7 @@ pub fn show_largest() {
     let mut distances = [MARK; CELLS];
     let mut sites = [MARK; CELLS];
     let mut scratch = [MARK; SCRATCH];
-    let asked = board(rules::SIDE, rules::SIDE, 0);
+    let asked = board(rules::SIDE_LIMIT, rules::SIDE_LIMIT, 0);
     map_of(asked, &picture, &mut distances, &mut sites, &mut scratch);
     print(b"512 by 512, bore 0");
     print_cell(CELLS - 1, distances[CELLS - 1], sites[CELLS - 1]);

@@ -11,8 +11,8 @@ use files::show_file;
 use knobs::show_clear;
 use knobs::show_value;
 use prices::show_costs;
-use rules::COST;
-use rules::SIDE;
+use rules::COST_LIMIT;
+use rules::SIDE_LIMIT;
 
 mod boards;
 mod changeovers;
@@ -41,8 +41,8 @@ fn cells() {
 // Boards that have nothing wrong with them but a side.
 fn sides() {
     let bored = [1; 513];
-    show_answer(b"513 by 1", board(SIDE + 1, 1, 0), &bored);
-    show_answer(b"1 by 513", board(1, SIDE + 1, 0), &bored);
+    show_answer(b"513 by 1", board(SIDE_LIMIT + 1, 1, 0), &bored);
+    show_answer(b"1 by 513", board(1, SIDE_LIMIT + 1, 0), &bored);
 }
 
 // Weights, on a board of one bored cell. Kind 0 reads none.
@@ -68,7 +68,7 @@ fn lines_of_costs() {
     show_costs(b"kind 0, costs 9 0 9 9 9", 0, &[9, 0, 9, 9, 9]);
     show_costs(b"kind 1, costs 9 0 9 9 9", 1, &[9, 0, 9, 9, 9]);
     show_costs(b"kind 1, costs 4 2 8 6 1", 1, &[4, 2, 8, 6, 1]);
-    show_costs(b"cost 1000001", 0, &[COST + 1, 0, 0, 0, 0]);
+    show_costs(b"cost 1000001", 0, &[COST_LIMIT + 1, 0, 0, 0, 0]);
 }
 
 // Lanes around a bore, from a cell to itself, and across a bore.

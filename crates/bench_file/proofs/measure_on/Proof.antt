@@ -7,51 +7,51 @@ use lib.ListN.{length}
 use Rattle.rules.specs.Limits.{bench-side}
 use Rattle.rules.specs.BenchFile.{bored-by}
 use Rattle.rules.specs.Refusals.{no-bore}
-use Rattle.rules.specs.Calls.{buffers, PictureLeft}
+use Rattle.rules.specs.Calls.{buffers, PictureAfter}
 use Rattle.bench_file.specs.Reading.{Peak}
 use Rattle.bench_file.proofs.Answering.{six, read-call, picture-of, count-of, map-answers, farthest-of}
 use borrow.Author.Needs.{needs}
 use Rattle.bench_file.proofs.measure_on.Statement.{statement}
 use Rattle.bench_file.proofs.measure_on.Tie as tie
 
--- the way back from the boring to the entry
-abbrev entry : tie.After-bore → tie.Start
-entry c = c .before .before .before .before .before .before .before
+-- the way back from the boring to the start
+abbrev at-start : tie.After-bore → tie.Start
+at-start c = c .before .before .before .before .before .before .before
 
 -- the way back from the map to the test of 6, and from there to the boring
 abbrev tested : tie.After-picture-map → tie.Else1
 tested c = c .before .before .before .before .before
 
-abbrev bored : tie.After-boreless → tie.After-bore
+abbrev bored : tie.After-no-bore → tie.After-bore
 bored c = c .before .before .before .before
 
 -- what is bored is the file's picture
-picture-is : (c : tie.After-bore) → c .bore .last .1 .0 ≡ bored-by (entry c .args .file .now)
-picture-is c = picture-of (entry c .args .file .now) (entry c .pre .1 .sound) (c .bore .ensures)
+picture-is : (c : tie.After-bore) → c .bore .last .1 .0 ≡ bored-by (at-start c .args .file .now)
+picture-is c = picture-of (at-start c .args .file .now) (at-start c .pre .1 .sound) (c .bore .ensures)
 
 -- past the test of 6 it has a bore
 has-bore : (c : tie.Else1) → no-bore (bored (c .before) .bore .last .1 .0) ≡ false
-has-bore c = sym (c .before .boreless .ensures) ∙ c .if1 .left
+has-bore c = sym (c .before .no-bore .ensures) ∙ c .if1 .left
 
 -- the map is made
 mapped : (c : tie.After-picture-map) → let b = bored (tested c .before) in
-    let a = entry b .args in
-    PictureLeft bench-side bench-side 0 0 0 (b .bore .last .1 .0)
+    let a = at-start b .args in
+    PictureAfter bench-side bench-side 0 0 0 (b .bore .last .1 .0)
     (buffers (a .distances .now) (a .sites .now) (a .scratch .now))
     (buffers (c .picture-map .last .1 .1 .1 .1 .1 .1 .0) (c .picture-map .last .1 .1 .1 .1 .1 .1 .1 .0)
     (c .picture-map .last .1 .1 .1 .1 .1 .1 .1 .1 .0))
 mapped c =
     let b = bored (tested c .before) in
-    let r = entry b .pre .1 in
-    let answers = map-answers (entry b .args .file .now) (picture-is b) (has-bore (tested c)) (r .distances-is)
+    let r = at-start b .pre .1 in
+    let answers = map-answers (at-start b .args .file .now) (picture-is b) (has-bore (tested c)) (r .distances-is)
     (r .sites-is) (r .scratch-is) in
     c .picture-map .ensures .done (c .picture-map .ensures .answered ∙ answers)
 
 bore-requires : tie.Need-bore-requires
 bore-requires c κs = search needs
 
-boreless-requires : tie.Need-boreless-requires
-boreless-requires c κs = search needs
+no-bore-requires : tie.Need-no-bore-requires
+no-bore-requires c κs = search needs
 
 same-length : tie.Need-same-length
 same-length c = search needs
@@ -59,7 +59,7 @@ same-length c = search needs
 returns : tie.Need-returns
 returns c =
     let b = bored (c .before) in
-    six (entry b .args .file .now) (entry b .pre .0) (picture-is b) (sym (c .before .boreless .ensures) ∙ c .if1 .taken)
+    six (at-start b .args .file .now) (at-start b .pre .0) (picture-is b) (sym (c .before .no-bore .ensures) ∙ c .if1 .taken)
 
 picture-map-requires : tie.Need-picture-map-requires
 picture-map-requires c κs = search needs
@@ -95,9 +95,9 @@ returns-2 c =
     let b = bored (t .before) in
     let M = mapped m in
     let words = m .picture-map .last .1 .1 .1 .1 .1 .1 .0 in
-    let long : length words ≡ bench-side * bench-side = M .distances-beyond .as-long ∙ entry b .pre .1 .distances-is in
-    read-call (entry b .args .file .now) (entry b .pre .0) (picture-is b) (has-bore t)
-    (count-of (entry b .pre .1 .sound) (b .bore .ensures))
+    let long : length words ≡ bench-side * bench-side = M .distances-beyond .as-long ∙ at-start b .pre .1 .distances-is in
+    read-call (at-start b .args .file .now) (at-start b .pre .0) (picture-is b) (has-bore t)
+    (count-of (at-start b .pre .1 .sound) (b .bore .ensures))
     (farthest-of (M .words) (subst (λ n. Peak words n (c .before .peak .result)) long (c .before .peak .ensures)))
 
 pub measure-on-spec : {M : Type 1} → statement M
@@ -105,7 +105,7 @@ measure-on-spec =
     tie.close
     (tie.spec
     bore-requires
-    boreless-requires
+    no-bore-requires
     same-length
     returns
     picture-map-requires

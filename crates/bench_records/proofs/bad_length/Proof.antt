@@ -3,7 +3,7 @@
 use mathlib.Core.Path.{sym}
 use borrow.Author.Tests.{eq-eqb}
 use Prim.Native.Nat.{_%_}
-use Rattle.rules.specs.Refusals.{bad-file}
+use Rattle.rules.specs.Refusals.{bad-length}
 use Rattle.rules.proofs.Refusals.{holds-unless, file-passes}
 use Rattle.bench_records.proofs.bad_length.Statement.{statement}
 use Rattle.bench_records.proofs.bad_length.Tie as tie
@@ -11,10 +11,10 @@ use Rattle.bench_records.proofs.bad_length.Tie as tie
 returns : tie.Need-returns
 returns c =
     let n = c .before .args .bytes in
-    sym (holds-unless (bad-file n) (λ e. c .if1 .taken (file-passes n e .0)))
+    sym (holds-unless (bad-length n) (λ e. c .if1 .taken (file-passes n e .0)))
 
 returns-2 : tie.Need-returns-2
-unfolding bad-file
+unfolding bad-length
 returns-2 c = rw (eq-eqb (c .before .args .bytes % 4) 0 (c .if1 .left))
 
 pub bad-length-spec : {M : Type 1} → statement M

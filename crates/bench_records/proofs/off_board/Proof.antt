@@ -4,14 +4,14 @@ use mathlib.Core.Path.{_≡_, refl, _∙_, sym}
 use Prim.Native.Nat.{_-_, _≤_}
 use native.Mathlib.Omega.{arith}
 use lib.ListN.{length, drop, length-drop}
-use Rattle.rules.specs.BenchFile.{outside}
+use Rattle.rules.specs.BenchFile.{off-board}
 use Rattle.rules.proofs.Refusals.{holds-unless}
-use Rattle.bench_records.proofs.FileRecords.{record-inside, record-passes, outside-end}
+use Rattle.bench_records.proofs.FileRecords.{record-inside, record-passes, off-board-end}
 use Rattle.bench_records.proofs.off_board.Statement.{statement}
 use Rattle.bench_records.proofs.off_board.Tie as tie
 
 abbrev Inv-loop : tie.InvT-loop
-Inv-loop file i₀ i = (outside file ≡ outside (drop i file)) × (i ≤ length file)
+Inv-loop file i₀ i = (off-board file ≡ off-board (drop i file)) × (i ≤ length file)
 
 abbrev μ-loop : tie.MeasureT-loop
 μ-loop file i₀ i = length file - i
@@ -30,7 +30,7 @@ returns c =
     let file = c .before .before .before .before .before .args .file .now in
     let i = c .before .before .before .loop .i in
     sym (c .before .before .before .loop .inv .0
-    ∙ holds-unless (outside (drop i file)) (λ e. omega (arith, record-inside file i (c .before .before .loop-test .taken) e .0)))
+    ∙ holds-unless (off-board (drop i file)) (λ e. omega (arith, record-inside file i (c .before .before .loop-test .taken) e .0)))
 
 add-coordinate : tie.Need-add-coordinate Inv-loop μ-loop
 add-coordinate c = omega arith
@@ -44,7 +44,7 @@ returns-2 c =
     let l = c .before .before .before .before in
     let i = l .before .loop .i in
     sym (l .before .loop .inv .0
-    ∙ holds-unless (outside (drop i file)) (λ e. omega (arith, record-inside file i (l .loop-test .taken) e .1)))
+    ∙ holds-unless (off-board (drop i file)) (λ e. omega (arith, record-inside file i (l .loop-test .taken) e .1)))
 
 add-i : tie.Need-add-i Inv-loop μ-loop
 add-i c = omega arith
@@ -63,7 +63,7 @@ returns-3 : tie.Need-returns-3 Inv-loop μ-loop
 returns-3 c =
     let file = c .before .before .before .args .file .now in
     let i = c .before .loop .i in
-    sym (c .before .loop .inv .0 ∙ outside-end (drop i file) (omega (arith, length-drop i file)))
+    sym (c .before .loop .inv .0 ∙ off-board-end (drop i file) (omega (arith, length-drop i file)))
 
 pub off-board-spec : {M : Type 1} → statement M
 off-board-spec =

@@ -48,16 +48,16 @@ square-requires-2 c κs = search needs
 add-low : tie.Need-add-low
 add-low c = search needs
 
-core-requires : tie.Need-core-requires
-core-requires c κs = search needs
+last-euclid-requires : tie.Need-last-euclid-requires
+last-euclid-requires c κs = search needs
 
 cast-t18 : tie.Need-cast-t18
-cast-t18 c = record { sfits = up-small (good (c .before .before .before .before)) (c .core .ensures) }
+cast-t18 c = record { sfits = up-small (good (c .before .before .before .before)) (c .last-euclid .ensures) }
 
 returns-5 : tie.Need-returns-5
 returns-5 c = let g = good (c .before .before .before .before) in
-    rw (toZ-pos w32 (c .core .result) (up-small g (c .core .ensures)))
-    (answered-up g (omega (arith, c .before .before .square2 .ensures, c .before .before .before .square .ensures)) (c .core .ensures))
+    rw (toZ-pos w32 (c .last-euclid .result) (up-small g (c .last-euclid .ensures)))
+    (answered-up g (omega (arith, c .before .before .square2 .ensures, c .before .before .before .square .ensures)) (c .last-euclid .ensures))
 
 sub-d : tie.Need-sub-d
 sub-d c = search needs
@@ -106,7 +106,7 @@ changeover-spec =
     add-top
     square-requires-2
     add-low
-    core-requires
+    last-euclid-requires
     cast-t18
     returns-5
     sub-d

@@ -7,16 +7,16 @@ use borrow.Author.Needs.{needs}
 use Rattle.costs.proofs.cost_map.Statement.{statement}
 use Rattle.costs.proofs.cost_map.Tie as tie
 
-of-costs-requires : tie.Need-of-costs-requires
-of-costs-requires c κs = search needs
+cost-refusal-requires : tie.Need-cost-refusal-requires
+cost-refusal-requires c κs = search needs
 
 returns : tie.Need-returns
-returns c = refused-call (c .before .of-costs .ensures) (c .if1 .taken) refl
+returns c = refused-call (c .before .cost-refusal .ensures) (c .if1 .taken) refl
 
-make-requires : tie.Need-make-requires
-make-requires c κs =
+accepted-map-requires : tie.Need-accepted-map-requires
+accepted-map-requires c κs =
     let t = c .before .before .before in
-    cost-accepted _ _ _ _ _ _ _ (sym (t .before .of-costs .ensures) ∙ t .if1 .left)
+    cost-accepted _ _ _ _ _ _ _ (sym (t .before .cost-refusal .ensures) ∙ t .if1 .left)
 
 same-length : tie.Need-same-length
 same-length c = search needs
@@ -31,15 +31,15 @@ returns-2 : tie.Need-returns-2
 returns-2 c =
     let m = c .before .before .before .before .before .before in
     let t = m .before .before .before .before in
-    made-call (sym (t .if1 .left) ∙ t .before .of-costs .ensures) (m .make .ensures)
+    made-call (sym (t .if1 .left) ∙ t .before .cost-refusal .ensures) (m .accepted-map .ensures)
 
 pub cost-map-spec : {M : Type 1} → statement M
 cost-map-spec =
     tie.close
     (tie.spec
-    of-costs-requires
+    cost-refusal-requires
     returns
-    make-requires
+    accepted-map-requires
     same-length
     same-length-2
     same-length-3

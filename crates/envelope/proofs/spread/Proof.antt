@@ -45,17 +45,17 @@ mul-winners-2 c = omega (arith, within (c .before))
 slice-write-winners : tie.Need-slice-write-winners Inv-loop μ-loop
 slice-write-winners c = omega (arith, within (c .before))
 
-sub-wide : tie.Need-sub-wide Inv-loop μ-loop
-sub-wide c = c .before .before .loop .inv .some (c .before .loop-test .taken)
+sub-as-index : tie.Need-sub-as-index Inv-loop μ-loop
+sub-as-index c = c .before .before .loop .inv .some (c .before .loop-test .taken)
 
-mul-wide : tie.Need-mul-wide Inv-loop μ-loop
-mul-wide c = omega (arith, within (c .before))
+mul-as-index : tie.Need-mul-as-index Inv-loop μ-loop
+mul-as-index c = omega (arith, within (c .before))
 
-shared-slice-read-wide : tie.Need-shared-slice-read-wide Inv-loop μ-loop
-shared-slice-read-wide c = omega (arith, within (c .before .before))
+shared-slice-read-as-index : tie.Need-shared-slice-read-as-index Inv-loop μ-loop
+shared-slice-read-as-index c = omega (arith, within (c .before .before))
 
-wide-requires : tie.Need-wide-requires Inv-loop μ-loop
-wide-requires c κs = tt
+as-index-requires : tie.Need-as-index-requires Inv-loop μ-loop
+as-index-requires c κs = tt
 
 sub-q : tie.Need-sub-q Inv-loop μ-loop
 sub-q c = c .before .before .before .before .before .loop .inv .some (c .before .before .before .before .loop-test .taken)
@@ -64,13 +64,13 @@ loop-less : tie.Need-loop-less Inv-loop μ-loop
 loop-less c = omega arith
 
 loop-again : tie.Need-loop-again Inv-loop μ-loop
-loop-again c = spread-start-of (c .before .before .before .before .before .before .before .before .pre) (c .before .before .before .before .before .loop .inv) (c .before .before .before .before .loop-test .taken) (sym (c .before .wide .ensures) ∙ c .if1 .taken)
+loop-again c = spread-start-of (c .before .before .before .before .before .before .before .before .pre) (c .before .before .before .before .before .loop .inv) (c .before .before .before .before .loop-test .taken) (sym (c .before .as-index .ensures) ∙ c .if1 .taken)
 
 loop-less-2 : tie.Need-loop-less-2 Inv-loop μ-loop
 loop-less-2 c = omega arith
 
 loop-again-2 : tie.Need-loop-again-2 Inv-loop μ-loop
-loop-again-2 c = spread-within (c .before .before .before .before .before .before .before .before .pre) (c .before .before .before .before .before .loop .inv) (c .before .before .before .before .loop-test .taken) (λ e. c .if1 .left (c .before .wide .ensures ∙ e))
+loop-again-2 c = spread-within (c .before .before .before .before .before .before .before .before .pre) (c .before .before .before .before .before .loop .inv) (c .before .before .before .before .loop-test .taken) (λ e. c .if1 .left (c .before .as-index .ensures ∙ e))
 
 same-length : tie.Need-same-length Inv-loop μ-loop
 same-length c = c .before .loop .inv .as-long
@@ -92,10 +92,10 @@ spread-spec =
     shared-slice-read-winners
     mul-winners-2
     slice-write-winners
-    sub-wide
-    mul-wide
-    shared-slice-read-wide
-    wide-requires
+    sub-as-index
+    mul-as-index
+    shared-slice-read-as-index
+    as-index-requires
     sub-q
     loop-less
     loop-again

@@ -8,8 +8,8 @@ use Rattle.gauge.proofs.Places.{first-away, third-kind, euclid-last}
 use Rattle.gauge.proofs.last.Statement.{statement}
 use Rattle.gauge.proofs.last.Tie as tie
 
-core-requires : tie.Need-core-requires
-core-requires c κs = let h = simp first-away at (rw (c .if1 .taken) at (c .before .pre .2)) in
+last-euclid-requires : tie.Need-last-euclid-requires
+last-euclid-requires c κs = let h = simp first-away at (rw (c .if1 .taken) at (c .before .pre .2)) in
     omega (arith, h)
 
 returns : tie.Need-returns
@@ -22,8 +22,8 @@ returns c =
     let b = c .before .before .args .b in
     let below : u < side-limit = omega arith in
     let small : u * u ≤ pred side-limit * pred side-limit = mul-le-mul (le-pred-of-lt below) (le-pred-of-lt below) in (
-      omega (arith, c .core .ensures, div-le-self (u * u + b - (i * i + a)) (2 * (u - i))),
-      rw (c .before .if1 .taken, c .core .ensures) (euclid-last (c .before .before .args .n) i u a b (p .1 .apart) h),
+      omega (arith, c .last-euclid .ensures, div-le-self (u * u + b - (i * i + a)) (2 * (u - i))),
+      rw (c .before .if1 .taken, c .last-euclid .ensures) (euclid-last (c .before .before .args .n) i u a b (p .1 .apart) h),
     )
 
 last-manhattan-requires : tie.Need-last-manhattan-requires
@@ -42,7 +42,7 @@ pub last-spec : {M : Type 1} → statement M
 last-spec =
     tie.close
     (tie.spec
-    core-requires
+    last-euclid-requires
     returns
     last-manhattan-requires
     returns-2

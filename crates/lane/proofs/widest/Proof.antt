@@ -6,16 +6,16 @@ use borrow.Author.Needs.{needs}
 use Rattle.lane.proofs.widest.Statement.{statement}
 use Rattle.lane.proofs.widest.Tie as tie
 
-of-lane-requires : tie.Need-of-lane-requires
-of-lane-requires c κs = search needs
+lane-refusal-requires : tie.Need-lane-refusal-requires
+lane-refusal-requires c κs = search needs
 
 returns : tie.Need-returns
-returns c = refused-call (c .before .of-lane .ensures) (c .if1 .taken) (refl, refl)
+returns c = refused-call (c .before .lane-refusal .ensures) (c .if1 .taken) (refl, refl)
 
-lay-requires : tie.Need-lay-requires
-lay-requires c κs =
+accepted-lane-requires : tie.Need-accepted-lane-requires
+accepted-lane-requires c κs =
     let t = c .before .before .before .before in
-    sym (t .before .of-lane .ensures) ∙ t .if1 .left
+    sym (t .before .lane-refusal .ensures) ∙ t .if1 .left
 
 same-length : tie.Need-same-length
 same-length c = search needs
@@ -33,15 +33,15 @@ returns-2 : tie.Need-returns-2
 returns-2 c =
     let l = c .before .before .before .before .before .before .before .before in
     let t = l .before .before .before .before .before in
-    made-call (sym (t .if1 .left) ∙ t .before .of-lane .ensures) (l .lay .ensures)
+    made-call (sym (t .if1 .left) ∙ t .before .lane-refusal .ensures) (l .accepted-lane .ensures)
 
 pub widest-spec : {M : Type 1} → statement M
 widest-spec =
     tie.close
     (tie.spec
-    of-lane-requires
+    lane-refusal-requires
     returns
-    lay-requires
+    accepted-lane-requires
     same-length
     same-length-2
     same-length-3

@@ -7,16 +7,16 @@ use borrow.Author.Needs.{needs}
 use Rattle.maps.proofs.picture_map.Statement.{statement}
 use Rattle.maps.proofs.picture_map.Tie as tie
 
-of-picture-requires : tie.Need-of-picture-requires
-of-picture-requires c κs = search needs
+picture-refusal-requires : tie.Need-picture-refusal-requires
+picture-refusal-requires c κs = search needs
 
 returns : tie.Need-returns
-returns c = refused-call (c .before .of-picture .ensures) (c .if1 .taken) refl
+returns c = refused-call (c .before .picture-refusal .ensures) (c .if1 .taken) refl
 
-make-requires : tie.Need-make-requires
-make-requires c κs =
+accepted-map-requires : tie.Need-accepted-map-requires
+accepted-map-requires c κs =
     let t = c .before .before .before in
-    picture-accepted _ _ _ _ _ _ _ _ _ (sym (t .before .of-picture .ensures) ∙ t .if1 .left)
+    picture-accepted _ _ _ _ _ _ _ _ _ (sym (t .before .picture-refusal .ensures) ∙ t .if1 .left)
 
 same-length : tie.Need-same-length
 same-length c = search needs
@@ -31,15 +31,15 @@ returns-2 : tie.Need-returns-2
 returns-2 c =
     let m = c .before .before .before .before .before .before in
     let t = m .before .before .before .before in
-    made-call (sym (t .if1 .left) ∙ t .before .of-picture .ensures) (m .make .ensures)
+    made-call (sym (t .if1 .left) ∙ t .before .picture-refusal .ensures) (m .accepted-map .ensures)
 
 pub picture-map-spec : {M : Type 1} → statement M
 picture-map-spec =
     tie.close
     (tie.spec
-    of-picture-requires
+    picture-refusal-requires
     returns
-    make-requires
+    accepted-map-requires
     same-length
     same-length-2
     same-length-3

@@ -1,13 +1,13 @@
 -- `maps::row_map` meets its contract: sweeps, row lines, and the scratch set to zero. Assumes nothing.
 use native.Mathlib.Omega.{arith}
-use Rattle.maps.proofs.Left.{believable, rows-left}
+use Rattle.maps.proofs.After.{believable, rows-after}
 use borrow.Author.Needs.{needs}
 use Rattle.maps.proofs.row_map.Statement.{statement}
 use Rattle.maps.proofs.row_map.Tie as tie
 
--- the ways back: from the swept words to the entry, and from the rows to the swept words
-abbrev entry : tie.After-sweep → tie.Start
-entry c = c .before .before .before .before .before .before
+-- the ways back: from the swept words to the start, and from the rows to the swept words
+abbrev at-start : tie.After-sweep → tie.Start
+at-start c = c .before .before .before .before .before .before
 
 abbrev swept : tie.After-all-rows → tie.After-sweep
 swept c = c .before .before .before .before .before .before
@@ -18,8 +18,8 @@ sweep-requires c κs = search needs
 all-rows-requires : tie.Need-all-rows-requires
 all-rows-requires c κs =
     let s = c .before .before .before .before .before in
-    let a = entry s .pre .1 in (
-      record { kind-in = omega (arith, entry s .pre .0) },
+    let a = at-start s .pre .1 in (
+      record { kind-in = omega (arith, at-start s .pre .0) },
       a .sides,
       a .lent .distances-from,
       a .lent .sites-from,
@@ -49,7 +49,7 @@ returns c =
     let r = words .before .before .before .before .before .before .before .before in
     let s = swept r in
     let z = rw (words .scratch-words .ensures) at (zeros .set-front .ensures) in
-    rows-left (entry s .pre .1) (s .sweep .ensures) (entry s .pre .0) (r .all-rows .ensures) (z .0) (z .1)
+    rows-after (at-start s .pre .1) (s .sweep .ensures) (at-start s .pre .0) (r .all-rows .ensures) (z .0) (z .1)
 
 pub row-map-spec : {M : Type 1} → statement M
 row-map-spec =

@@ -1,6 +1,6 @@
 -- `maps::scanned_map` meets its contract: the scans, the sites all marked, and the scratch set to zero. Assumes nothing.
 use mathlib.Core.Path.{refl}
-use Rattle.maps.proofs.Left.{scans-left}
+use Rattle.maps.proofs.After.{scans-after}
 use borrow.Author.Needs.{needs}
 use Rattle.maps.proofs.scanned_map.Statement.{statement}
 use Rattle.maps.proofs.scanned_map.Tie as tie
@@ -38,7 +38,7 @@ returns c =
     let marks = words .before .before .before .before in
     let scans = marks .before .before .before .before in
     let z = rw (words .scratch-words .ensures) at (zeros .set-front2 .ensures) in
-    scans-left (scans .scan-map .ensures) (marks .set-front .ensures .0) (marks .set-front .ensures .1) (z .0) (z .1)
+    scans-after (scans .scan-map .ensures) (marks .set-front .ensures .0) (marks .set-front .ensures .1) (z .0) (z .1)
 
 pub scanned-map-spec : {M : Type 1} → statement M
 scanned-map-spec =

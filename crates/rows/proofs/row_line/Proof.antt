@@ -10,9 +10,9 @@ use Rattle.rows.proofs.RowLine.{words-part, words-length, tail-length, 
 use Rattle.rows.proofs.row_line.Statement.{statement}
 use Rattle.rows.proofs.row_line.Tie as tie
 
--- the ways back: from the filled line to the entry, from the winners to the filled line, and from write-out to the winners
-abbrev entry : tie.After-fill → tie.Start
-entry c = c .before .before .before .before .before .before .before .before
+-- the ways back: from the filled line to the start, from the winners to the filled line, and from write-out to the winners
+abbrev at-start : tie.After-fill → tie.Start
+at-start c = c .before .before .before .before .before .before .before .before
 
 abbrev filled : tie.After-winners-of → tie.After-fill
 filled c = c .before .before .before .before .before .before
@@ -21,14 +21,14 @@ abbrev won : tie.After-write-out-arg4 → tie.After-winners-of
 won c = c .before .before .before .before .before .before .before .before .before
 
 -- the row's words are where they were when the engine has used the tail
-stay : (c : tie.After-winners-of) → let a = entry (filled c) .args in let w = length (a .values .now) in
+stay : (c : tie.After-winners-of) → let a = at-start (filled c) .args in let w = length (a .values .now) in
     words-part (a .at) w (putMid (a .tail) (a .tail + w + w - a .tail) (a .scratch .now) (c .winners-of .last .1 .1 .0))
     ≡ words-part (a .at) w (a .scratch .now)
 stay c =
-    let a = entry (filled c) .args in
+    let a = at-start (filled c) .args in
     let k = a .tail + length (a .values .now) + length (a .values .now) - a .tail in
     let part = c .winners-of .last .1 .1 .0 in
-    words-stay (entry (filled c) .pre .0) k part (same-len-mid (a .tail) k (a .scratch .now) part (c .winners-of .kept .1 .1 .0))
+    words-stay (at-start (filled c) .pre .0) k part (same-len-mid (a .tail) k (a .scratch .now) part (c .winners-of .kept .1 .1 .0))
 
 add-end : tie.Need-add-end
 add-end c = search needs
@@ -70,7 +70,7 @@ part-winners-of-end c = search needs
 winners-of-requires : tie.Need-winners-of-requires
 winners-of-requires c κs =
     let f = c .before .before .before .before .before in
-    let p = entry f .pre in
+    let p = at-start f .pre in
     let long = f .fill .kept .1 .1 .1 .0 in (
       p .0 .known,
       line-of (p .0 .known) (valued (p .0) long (f .fill .ensures)),
@@ -93,7 +93,7 @@ part-write-out-end c = search needs
 write-out-requires : tie.Need-write-out-requires
 write-out-requires c κs =
     let f = filled (won c) in
-    let p = entry f .pre in
+    let p = at-start f .pre in
     let b = p .0 in
     let long = f .fill .kept .1 .1 .1 .0 in
     let v = valued b long (f .fill .ensures) in (
@@ -122,7 +122,7 @@ returns c =
     let o = c .before .before .before .before in
     let w = won (o .before) in
     let f = filled w in
-    let b = entry f .pre .0 in
+    let b = at-start f .pre .0 in
     row-made b (w .winners-of .last .1 .1 .0) (f .fill .kept .1 .1 .1 .0) (f .fill .ensures) (w .winners-of .ensures)
     (rw (stay w) at (o .write-out .ensures)) (w .winners-of .kept .1 .1 .0)
 

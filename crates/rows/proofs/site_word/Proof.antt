@@ -9,13 +9,13 @@ use Rattle.rows.proofs.site_word.Statement.{statement}
 use Rattle.rows.proofs.site_word.Tie as tie
 
 -- the row times the width is small
-small : (c : tie.After-wide) → c .wide .result * c .before .args .w ≤ side-limit * side-limit
+small : (c : tie.After-as-index) → c .as-index .result * c .before .args .w ≤ side-limit * side-limit
 small c =
-    let low : c .wide .result ≤ side-limit = omega (arith, c .wide .ensures) in
+    let low : c .as-index .result ≤ side-limit = omega (arith, c .as-index .ensures) in
     mul-le-mul low (c .before .pre .0)
 
-wide-requires : tie.Need-wide-requires
-wide-requires c κs = search needs
+as-index-requires : tie.Need-as-index-requires
+as-index-requires c κs = search needs
 
 mul-result : tie.Need-mul-result
 mul-result c = omega (arith, small c)
@@ -27,7 +27,7 @@ cast-result : tie.Need-cast-result
 cast-result c = omega (arith, small c)
 
 returns : tie.Need-returns
-returns c = omega (arith, ap (λ k. k * c .before .args .w) (c .wide .ensures))
+returns c = omega (arith, ap (λ k. k * c .before .args .w) (c .as-index .ensures))
 
 pub site-word-spec : {M : Type 1} → statement M
-site-word-spec = tie.close (tie.spec wide-requires mul-result add-result cast-result returns)
+site-word-spec = tie.close (tie.spec as-index-requires mul-result add-result cast-result returns)

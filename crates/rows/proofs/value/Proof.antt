@@ -14,8 +14,8 @@ use Rattle.rows.proofs.value.Tie as tie
 returns : tie.Need-returns
 returns c = rw (eq-eqb (c .before .args .word) mark (c .if1 .taken))
 
-wide-requires : tie.Need-wide-requires
-wide-requires c κs = search needs
+as-index-requires : tie.Need-as-index-requires
+as-index-requires c κs = search needs
 
 apart-requires : tie.Need-apart-requires
 apart-requires c κs = search needs
@@ -23,7 +23,7 @@ apart-requires c κs = search needs
 lifted-requires : tie.Need-lifted-requires
 lifted-requires c κs = (
   c .before .before .before .pre .0,
-  ⊎-elim (λ l. omega (arith, c .apart .ensures, c .before .wide .ensures, apart-below (c .before .before .before .args .y) (c .before .wide .result)))
+  ⊎-elim (λ l. omega (arith, c .apart .ensures, c .before .as-index .ensures, apart-below (c .before .before .before .args .y) (c .before .as-index .result)))
       (λ e. absurd (c .before .before .if1 .left e)) (c .before .before .before .pre .2),
 )
 
@@ -32,7 +32,7 @@ returns-2 c =
     let g = c .before .before .before .before .args .g in
     let y = c .before .before .before .before .args .y in
     rw (ne-eqb (c .before .before .before .before .args .word) mark (c .before .before .before .if1 .left))
-    (c .lifted .ensures .0 ∙ ap (measured g .lift) (c .before .apart .ensures ∙ ap (away y) (c .before .before .wide .ensures)))
+    (c .lifted .ensures .0 ∙ ap (measured g .lift) (c .before .apart .ensures ∙ ap (away y) (c .before .before .as-index .ensures)))
 
 pub value-spec : {M : Type 1} → statement M
-value-spec = tie.close (tie.spec returns wide-requires apart-requires lifted-requires returns-2)
+value-spec = tie.close (tie.spec returns as-index-requires apart-requires lifted-requires returns-2)

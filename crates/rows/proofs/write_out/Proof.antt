@@ -22,12 +22,12 @@ abbrev μ-loop : tie.MeasureT-loop
 μ-loop g words values distances₀ sites₀ w x₀ distances sites x = length values - x
 
 -- the word read at x is still its winner
-winner : (c : tie.After-wide Inv-loop μ-loop)
-    → c .wide .result ≡ getD (c .before .before .before .before .before .before .before .before .args .sites .now) (c .before .before .before .loop .x) 0
-winner c = c .wide .ensures ∙ c .before .before .before .loop .inv .1 .rest (c .before .before .before .loop .x) (le-refl _)
+winner : (c : tie.After-as-index Inv-loop μ-loop)
+    → c .as-index .result ≡ getD (c .before .before .before .before .before .before .before .before .args .sites .now) (c .before .before .before .loop .x) 0
+winner c = c .as-index .ensures ∙ c .before .before .before .loop .inv .1 .rest (c .before .before .before .loop .x) (le-refl _)
 
 -- and what is asked of it holds
-chosen : (c : tie.After-wide Inv-loop μ-loop) → let i = c .wide .result in let a = c .before .before .before .before .before .before .before .before .args in
+chosen : (c : tie.After-as-index Inv-loop μ-loop) → let i = c .as-index .result in let a = c .before .before .before .before .before .before .before .before .args in
     (i < length (a .values .now)) × (getD (a .words .now) i 0 < side-limit)
     × (height-at (a .g) (a .values .now) i (c .before .before .before .loop .x) < 2 ^ 32)
 chosen c =
@@ -39,14 +39,14 @@ chosen c =
 loop-holds : tie.Need-loop-holds Inv-loop μ-loop
 loop-holds c = (filling-none, filling-none, omega arith)
 
-mul-wide : tie.Need-mul-wide Inv-loop μ-loop
-mul-wide c = omega arith
+mul-as-index : tie.Need-mul-as-index Inv-loop μ-loop
+mul-as-index c = omega arith
 
-slice-read-wide : tie.Need-slice-read-wide Inv-loop μ-loop
-slice-read-wide c = omega (arith, c .before .before .loop .inv .1 .as-long, c .before .before .before .before .before .before .before .pre .5)
+slice-read-as-index : tie.Need-slice-read-as-index Inv-loop μ-loop
+slice-read-as-index c = omega (arith, c .before .before .loop .inv .1 .as-long, c .before .before .before .before .before .before .before .pre .5)
 
-wide-requires : tie.Need-wide-requires Inv-loop μ-loop
-wide-requires c κs = tt
+as-index-requires : tie.Need-as-index-requires Inv-loop μ-loop
+as-index-requires c κs = tt
 
 map-word-requires : tie.Need-map-word-requires Inv-loop μ-loop
 map-word-requires c κs =
@@ -90,7 +90,7 @@ loop-again c =
     let w = winner (c .before .before .before) in (
       filling-more (i .0) (omega (arith, p .4)) (c .before .before .map-word .ensures ∙ ap (λ k. height-at (a .g) (a .values .now) k x) w),
       filling-more (i .1) (omega (arith, p .5))
-          (c .site-word .ensures ∙ ap (λ n. cell n (c .before .before .before .wide .result) (getD (a .words .now) (c .before .before .before .wide .result) 0)) (sym (p .3)) ∙ ap (λ k. cell (length (a .words .now)) k (getD (a .words .now) k 0)) w),
+          (c .site-word .ensures ∙ ap (λ n. cell n (c .before .before .before .as-index .result) (getD (a .words .now) (c .before .before .before .as-index .result) 0)) (sym (p .3)) ∙ ap (λ k. cell (length (a .words .now)) k (getD (a .words .now) k 0)) w),
       omega arith,
     )
 
@@ -111,9 +111,9 @@ write-out-spec =
     Inv-loop
     μ-loop
     loop-holds
-    mul-wide
-    slice-read-wide
-    wide-requires
+    mul-as-index
+    slice-read-as-index
+    as-index-requires
     map-word-requires
     mul-distances
     slice-write-distances

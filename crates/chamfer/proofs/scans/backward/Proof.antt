@@ -4,13 +4,13 @@ use mathlib.Core.Path.{_≡_, ap}
 use Prim.Native.Nat.{_+_, _-_, _≤_}
 use native.Mathlib.Omega.{arith}
 use Rattle.rules.specs.Board.{cell}
-use Rattle.chamfer.specs.Scans.{Swept, backward-scan}
+use Rattle.chamfer.specs.Scans.{Advanced, backward-scan}
 use Rattle.chamfer.proofs.Sweeps.{stay, and-then, backward-over}
 use Rattle.chamfer.proofs.scans.backward.Statement.{statement}
 use Rattle.chamfer.proofs.scans.backward.Tie as tie
 
 abbrev Inv-loop : tie.InvT-loop
-Inv-loop b words₀ y₀ words y = (y ≤ b .h) × Swept b backward-scan (cell (b .w) 0 (b .h)) (cell (b .w) 0 y) words₀ words
+Inv-loop b words₀ y₀ words y = (y ≤ b .h) × Advanced b backward-scan (cell (b .w) 0 (b .h)) (cell (b .w) 0 y) words₀ words
 
 abbrev μ-loop : tie.MeasureT-loop
 μ-loop b words₀ y₀ words y = y

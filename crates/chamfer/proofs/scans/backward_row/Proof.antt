@@ -3,15 +3,15 @@
 use Prim.Native.Nat.{_+_, _-_, _≤_}
 use native.Mathlib.Omega.{arith}
 use Rattle.rules.specs.Board.{cell}
-use Rattle.neighbours.specs.Neighbours.{On}
-use Rattle.chamfer.specs.Scans.{Swept, backward-scan}
+use Rattle.chamfer_turn.specs.Neighbours.{On}
+use Rattle.chamfer.specs.Scans.{Advanced, backward-scan}
 use Rattle.chamfer.proofs.Sweeps.{stay, and-then, backward-turn}
 use Rattle.chamfer.proofs.scans.backward_row.Statement.{statement}
 use Rattle.chamfer.proofs.scans.backward_row.Tie as tie
 
 abbrev Inv-loop : tie.InvT-loop
 Inv-loop b words₀ y x₀ words x =
-    (x ≤ b .w) × Swept b backward-scan (cell (b .w) 0 (y + 1)) (cell (b .w) x y) words₀ words
+    (x ≤ b .w) × Advanced b backward-scan (cell (b .w) 0 (y + 1)) (cell (b .w) x y) words₀ words
 
 abbrev μ-loop : tie.MeasureT-loop
 μ-loop b words₀ y x₀ words x = x

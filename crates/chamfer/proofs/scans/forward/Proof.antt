@@ -4,13 +4,13 @@ use mathlib.Core.Path.{refl}
 use Prim.Native.Nat.{_-_, _≤_}
 use native.Mathlib.Omega.{arith}
 use Rattle.rules.specs.Board.{cell}
-use Rattle.chamfer.specs.Scans.{Swept, forward-scan}
+use Rattle.chamfer.specs.Scans.{Advanced, forward-scan}
 use Rattle.chamfer.proofs.Sweeps.{stay, and-then, forward-over}
 use Rattle.chamfer.proofs.scans.forward.Statement.{statement}
 use Rattle.chamfer.proofs.scans.forward.Tie as tie
 
 abbrev Inv-loop : tie.InvT-loop
-Inv-loop b words₀ h y₀ words y = (y ≤ b .h) × Swept b forward-scan (cell (b .w) 0 0) (cell (b .w) 0 y) words₀ words
+Inv-loop b words₀ h y₀ words y = (y ≤ b .h) × Advanced b forward-scan (cell (b .w) 0 0) (cell (b .w) 0 y) words₀ words
 
 abbrev μ-loop : tie.MeasureT-loop
 μ-loop b words₀ h y₀ words y = b .h - y

@@ -3,14 +3,14 @@
 use Prim.Native.Nat.{_-_, _≤_}
 use native.Mathlib.Omega.{arith}
 use Rattle.rules.specs.Board.{cell}
-use Rattle.neighbours.specs.Neighbours.{On}
-use Rattle.chamfer.specs.Scans.{Swept, forward-scan}
+use Rattle.chamfer_turn.specs.Neighbours.{On}
+use Rattle.chamfer.specs.Scans.{Advanced, forward-scan}
 use Rattle.chamfer.proofs.Sweeps.{stay, and-then, forward-turn}
 use Rattle.chamfer.proofs.scans.forward_row.Statement.{statement}
 use Rattle.chamfer.proofs.scans.forward_row.Tie as tie
 
 abbrev Inv-loop : tie.InvT-loop
-Inv-loop b words₀ y w x₀ words x = (x ≤ b .w) × Swept b forward-scan (cell (b .w) 0 y) (cell (b .w) x y) words₀ words
+Inv-loop b words₀ y w x₀ words x = (x ≤ b .w) × Advanced b forward-scan (cell (b .w) 0 y) (cell (b .w) x y) words₀ words
 
 abbrev μ-loop : tie.MeasureT-loop
 μ-loop b words₀ y w x₀ words x = b .w - x

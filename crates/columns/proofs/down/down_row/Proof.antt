@@ -21,23 +21,23 @@ sub-above c = omega arith
 loop-holds : tie.Need-loop-holds Inv-loop μ-loop
 loop-holds c = filling-start (c .before .before .pre .0)
 
-add-passed : tie.Need-add-passed Inv-loop μ-loop
-add-passed c = omega arith
+add-carried : tie.Need-add-carried Inv-loop μ-loop
+add-carried c = omega arith
 
-shared-slice-read-passed : tie.Need-shared-slice-read-passed Inv-loop μ-loop
-shared-slice-read-passed c = omega arith
+shared-slice-read-carried : tie.Need-shared-slice-read-carried Inv-loop μ-loop
+shared-slice-read-carried c = omega arith
 
-add-passed-2 : tie.Need-add-passed-2 Inv-loop μ-loop
-add-passed-2 c = omega arith
+add-carried-2 : tie.Need-add-carried-2 Inv-loop μ-loop
+add-carried-2 c = omega arith
 
-mul-passed : tie.Need-mul-passed Inv-loop μ-loop
-mul-passed c = omega arith
+mul-carried : tie.Need-mul-carried Inv-loop μ-loop
+mul-carried c = omega arith
 
-slice-read-passed : tie.Need-slice-read-passed Inv-loop μ-loop
-slice-read-passed c = omega arith
+slice-read-carried : tie.Need-slice-read-carried Inv-loop μ-loop
+slice-read-carried c = omega arith
 
-passed-requires : tie.Need-passed-requires Inv-loop μ-loop
-passed-requires c κs = tt
+carried-requires : tie.Need-carried-requires Inv-loop μ-loop
+carried-requires c κs = tt
 
 add-words : tie.Need-add-words Inv-loop μ-loop
 add-words c = omega arith
@@ -56,9 +56,9 @@ loop-less c = omega arith
 
 loop-again : tie.Need-loop-again Inv-loop μ-loop
 loop-again c =
-    let entry = c .before .before .before .before .before .before .before in
-    stepped (entry .args .picture .now) (entry .pre .1) (entry .pre .2) (c .before .before .before .before .loop .inv)
-    (c .before .before .before .loop-test .taken) (omega arith) (c .passed .ensures)
+    let begun = c .before .before .before .before .before .before .before in
+    stepped (begun .args .picture .now) (begun .pre .1) (begun .pre .2) (c .before .before .before .before .loop .inv)
+    (c .before .before .before .loop-test .taken) (omega arith) (c .carried .ensures)
 
 same-length : tie.Need-same-length Inv-loop μ-loop
 same-length c = c .before .loop .inv .done .as-long
@@ -74,12 +74,12 @@ down-row-spec =
     μ-loop
     sub-above
     loop-holds
-    add-passed
-    shared-slice-read-passed
-    add-passed-2
-    mul-passed
-    slice-read-passed
-    passed-requires
+    add-carried
+    shared-slice-read-carried
+    add-carried-2
+    mul-carried
+    slice-read-carried
+    carried-requires
     add-words
     mul-words
     slice-write-words

@@ -14,8 +14,8 @@ abbrev μ-loop : tie.MeasureT-loop
 μ-loop w h a b picture words₀ start₀ y₀ words start y = w * h - start
 
 -- the function's entry, from the loop
-abbrev entry : tie.At-loop Inv-loop μ-loop → tie.Start Inv-loop μ-loop
-entry c = c .before .before .before .before .before .before .before
+abbrev at-start : tie.At-loop Inv-loop μ-loop → tie.Start Inv-loop μ-loop
+at-start c = c .before .before .before .before .before .before .before
 
 -- the call that did the top row, from the loop
 abbrev topped : tie.At-loop Inv-loop μ-loop → tie.After-top-row Inv-loop μ-loop
@@ -27,8 +27,8 @@ turn c = c .before .before .before .before
 
 -- the row of this turn begins on the board
 begins : (c : tie.In-loop Inv-loop μ-loop) →
-    let e = entry (c .before) in c .before .loop .start < e .args .w * e .args .h
-begins c = omega (arith, entry (c .before) .pre .1)
+    let e = at-start (c .before) in c .before .loop .start < e .args .w * e .args .h
+begins c = omega (arith, at-start (c .before) .pre .1)
 
 top-row-requires : tie.Need-top-row-requires Inv-loop μ-loop
 top-row-requires c κs =
@@ -40,32 +40,32 @@ loop-holds c = lowering-start (c .before .before .before .before .before .before
 down-row-requires : tie.Need-down-row-requires Inv-loop μ-loop
 down-row-requires c κs =
     let loop = c .before .before in
-    let p = entry loop .pre in
+    let p = at-start loop .pre in
     let inside = two-rows (p .0) (loop .loop .inv) (begins (c .before)) in
     omega (arith, p .0, topped loop .top-row .kept .1 .1 .1 .0, loop .loop .inv .as-long)
 
 add-start : tie.Need-add-start Inv-loop μ-loop
 add-start c =
     let loop = turn c .before in
-    let p = entry loop .pre in omega (arith, two-rows (p .0) (loop .loop .inv) (begins (turn c)))
+    let p = at-start loop .pre in omega (arith, two-rows (p .0) (loop .loop .inv) (begins (turn c)))
 
 add-y : tie.Need-add-y Inv-loop μ-loop
-add-y c = let loop = turn c .before in omega (arith, loop .loop .inv .to, entry loop .pre .0 .sides)
+add-y c = let loop = turn c .before in omega (arith, loop .loop .inv .to, at-start loop .pre .0 .sides)
 
 loop-less : tie.Need-loop-less Inv-loop μ-loop
-loop-less c = omega (arith, begins (turn c), entry (turn c .before) .pre .0 .sides)
+loop-less c = omega (arith, begins (turn c), at-start (turn c .before) .pre .0 .sides)
 
 loop-again : tie.Need-loop-again Inv-loop μ-loop
 loop-again c =
     let loop = turn c .before in
-    lowering-more (entry loop .pre .0) (loop .loop .inv) (begins (turn c)) (c .before .before .down-row .ensures)
+    lowering-more (at-start loop .pre .0) (loop .loop .inv) (begins (turn c)) (c .before .before .down-row .ensures)
 
 same-length : tie.Need-same-length Inv-loop μ-loop
 same-length c = c .before .loop .inv .as-long ∙ topped (c .before) .top-row .kept .1 .1 .1 .0
 
 returns : tie.Need-returns Inv-loop μ-loop
 returns c =
-    let p = entry (c .before) .pre in
+    let p = at-start (c .before) .pre in
     lowering-end (p .0) (c .before .loop .inv) (omega arith) (topped (c .before) .top-row .ensures)
 
 pub down-rows-spec : {M : Type 1} → statement M

@@ -16,11 +16,11 @@ abbrev μ-loop : tie.MeasureT-loop
 loop-holds : tie.Need-loop-holds Inv-loop μ-loop
 loop-holds c = filling-start (c .before .before .pre .0)
 
-shared-slice-read-passed : tie.Need-shared-slice-read-passed Inv-loop μ-loop
-shared-slice-read-passed c = omega arith
+shared-slice-read-carried : tie.Need-shared-slice-read-carried Inv-loop μ-loop
+shared-slice-read-carried c = omega arith
 
-passed-requires : tie.Need-passed-requires Inv-loop μ-loop
-passed-requires c κs = tt
+carried-requires : tie.Need-carried-requires Inv-loop μ-loop
+carried-requires c κs = tt
 
 mul-words : tie.Need-mul-words Inv-loop μ-loop
 mul-words c = omega arith
@@ -37,7 +37,7 @@ loop-less c = omega arith
 loop-again : tie.Need-loop-again Inv-loop μ-loop
 loop-again c =
     filling-more (c .before .before .before .loop .inv) (c .before .before .loop-test .taken) (omega arith)
-    (omega arith) (c .passed .ensures)
+    (omega arith) (c .carried .ensures)
 
 same-length : tie.Need-same-length Inv-loop μ-loop
 same-length c = c .before .loop .inv .done .as-long
@@ -52,8 +52,8 @@ top-row-spec =
     Inv-loop
     μ-loop
     loop-holds
-    shared-slice-read-passed
-    passed-requires
+    shared-slice-read-carried
+    carried-requires
     mul-words
     slice-write-words
     add-x

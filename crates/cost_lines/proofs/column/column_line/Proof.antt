@@ -11,9 +11,9 @@ use borrow.Author.Needs.{needs}
 use Rattle.cost_lines.proofs.column.column_line.Statement.{statement}
 use Rattle.cost_lines.proofs.column.column_line.Tie as tie
 
--- the ways back: from the gathered line to the entry, and from the winners to the gathered line
-abbrev entry : tie.After-gather → tie.Start
-entry c = c .before .before .before .before .before .before
+-- the ways back: from the gathered line to the start, and from the winners to the gathered line
+abbrev at-start : tie.After-gather → tie.Start
+at-start c = c .before .before .before .before .before .before
 
 abbrev gathered : tie.After-winners-of → tie.After-gather
 gathered c = c .before .before .before .before .before .before
@@ -45,8 +45,8 @@ part-winners-of-end c = search needs
 winners-of-requires : tie.Need-winners-of-requires
 winners-of-requires c κs =
     let f = c .before .before .before .before .before in
-    let p = entry f .pre in
-    let a = entry f .args in
+    let p = at-start f .pre in
+    let a = at-start f .args in
     let h = length (a .values .now) in
     let long = f .gather .kept .1 .1 .1 .0 in (
       known (a .g) (p .0 .kind-in),
@@ -62,8 +62,8 @@ scatter-requires : tie.Need-scatter-requires
 scatter-requires c κs =
     let w = c .before .before .before .before .before .before .before in
     let f = gathered w in
-    let p = entry f .pre in
-    let a = entry f .args in
+    let p = at-start f .pre in
+    let a = at-start f .args in
     let h = length (a .values .now) in
     let tail = a .w * h in
     let long = f .gather .kept .1 .1 .1 .0 in
@@ -89,8 +89,8 @@ returns c =
     let s = c .before .before in
     let w = s .before .before .before .before .before .before .before .before in
     let f = gathered w in
-    let p = entry f .pre in
-    let a = entry f .args in
+    let p = at-start f .pre in
+    let a = at-start f .args in
     let h = length (a .values .now) in
     column-more (p .0) (p .1) (f .gather .kept .1 .1 .1 .0) (f .gather .ensures) (a .w * h + h + h - a .w * h)
     (w .winners-of .last .1 .1 .0) (p .3)

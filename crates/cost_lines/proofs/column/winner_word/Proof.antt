@@ -6,8 +6,8 @@ use borrow.Author.Needs.{needs}
 use Rattle.cost_lines.proofs.column.winner_word.Statement.{statement}
 use Rattle.cost_lines.proofs.column.winner_word.Tie as tie
 
-wide-requires : tie.Need-wide-requires
-wide-requires c κs = search needs
+as-index-requires : tie.Need-as-index-requires
+as-index-requires c κs = search needs
 
 mul-if1 : tie.Need-mul-if1
 mul-if1 c = search needs
@@ -19,14 +19,14 @@ returns : tie.Need-returns
 returns c =
     let w = c .before .before in
     let a = w .before .before .args in
-    rw (eq-eqb (getD (a .values .now) (a .j) 0) line-limit (rw (w .wide .ensures) at (c .if1 .taken)))
+    rw (eq-eqb (getD (a .values .now) (a .j) 0) line-limit (rw (w .as-index .ensures) at (c .if1 .taken)))
 
 returns-2 : tie.Need-returns-2
 returns-2 c =
     let w = c .before .before in
     let a = w .before .before .args in
-    rw (ne-eqb (getD (a .values .now) (a .j) 0) line-limit (rw (w .wide .ensures) at (c .if1 .left)))
+    rw (ne-eqb (getD (a .values .now) (a .j) 0) line-limit (rw (w .as-index .ensures) at (c .if1 .left)))
 
 pub winner-word-spec : {M : Type 1} → statement M
 winner-word-spec =
-    tie.close (tie.spec wide-requires mul-if1 shared-slice-read-if1 returns returns-2)
+    tie.close (tie.spec as-index-requires mul-if1 shared-slice-read-if1 returns returns-2)

@@ -15,24 +15,24 @@ use borrow.Author.Needs.{needs}
 use Rattle.cost_lines.proofs.row.column_value.Statement.{statement}
 use Rattle.cost_lines.proofs.row.column_value.Tie as tie
 
--- the way back to the entry
-abbrev entry : tie.After-wide → tie.Start
-entry c = c .before .before .before
+-- the way back to the start
+abbrev at-start : tie.After-as-index → tie.Start
+at-start c = c .before .before .before
 
 -- the word names a row, and its cell is one of the picture
-inside : (c : tie.After-wide) → let a = entry c .args in
-    (c .wide .result < side-limit) × (c .wide .result * a .w + a .i < length (a .costs .now))
+inside : (c : tie.After-as-index) → let a = at-start c .args in
+    (c .as-index .result < side-limit) × (c .as-index .result * a .w + a .i < length (a .costs .now))
 inside c =
-    let a = entry c .args in
-    let e = c .wide .ensures in
+    let a = at-start c .args in
+    let e = c .as-index .ensures in
     ⊎-elim (λ l. (omega arith, subst (λ k. k * a .w + a .i < length (a .costs .now)) (sym e) (l .1)))
-    (λ marked. absurd (c .before .if1 .left marked)) (entry c .pre .2)
+    (λ marked. absurd (c .before .if1 .left marked)) (at-start c .pre .2)
 
 returns : tie.Need-returns
 returns c = rw (eq-eqb (c .before .before .args .word) mark (c .if1 .taken))
 
-wide-requires : tie.Need-wide-requires
-wide-requires c κs = search needs
+as-index-requires : tie.Need-as-index-requires
+as-index-requires c κs = search needs
 
 mul-cost : tie.Need-mul-cost
 mul-cost c = omega (arith, inside c)
@@ -50,7 +50,7 @@ cast-cost : tie.Need-cast-cost
 cast-cost c =
     omega (
       arith,
-      c .shared-slice-known2 .given (c .before .wide .result * c .before .before .before .before .args .w
+      c .shared-slice-known2 .given (c .before .as-index .result * c .before .before .before .before .args .w
           + c .before .before .before .before .args .i),
     )
 
@@ -60,7 +60,7 @@ apart-requires c κs = search needs
 lifted-requires : tie.Need-lifted-requires
 lifted-requires c κs =
     let w = c .before .before in
-    (entry w .pre .0, omega (arith, inside w .0, c .apart .ensures, apart-below (entry w .args .y) (w .wide .result)))
+    (at-start w .pre .0, omega (arith, inside w .0, c .apart .ensures, apart-below (at-start w .args .y) (w .as-index .result)))
 
 add-result : tie.Need-add-result
 add-result c =
@@ -69,16 +69,16 @@ add-result c =
       arith,
       c .lifted .ensures .1,
       k .shared-slice-known2 .given
-          (k .before .wide .result * entry (k .before) .args .w + entry (k .before) .args .i),
+          (k .before .as-index .result * at-start (k .before) .args .w + at-start (k .before) .args .i),
     )
 
 returns-2 : tie.Need-returns-2
 returns-2 c =
     let w = c .before .before .before in
-    let a = entry w .args in
-    let e = w .wide .ensures in
+    let a = at-start w .args in
+    let e = w .as-index .ensures in
     let lift = c .lifted .ensures .0 ∙ ap (measured (a .g) .lift) (c .before .apart .ensures ∙ ap (away (a .y)) e) in
-    let cost = getD-within (a .costs .now) (w .wide .result * a .w + a .i) 0 mark (inside w .1)
+    let cost = getD-within (a .costs .now) (w .as-index .result * a .w + a .i) 0 mark (inside w .1)
     ∙ ap (λ k. cost-at (a .w) (a .costs .now) (a .i) k) e in
     rw (ne-eqb (a .word) mark (w .before .if1 .left)) (omega (arith, lift, cost))
 
@@ -87,7 +87,7 @@ column-value-spec =
     tie.close
     (tie.spec
     returns
-    wide-requires
+    as-index-requires
     mul-cost
     add-cost
     mul-cost-2

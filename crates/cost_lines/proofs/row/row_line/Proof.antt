@@ -14,10 +14,10 @@ use borrow.Author.Needs.{needs}
 use Rattle.cost_lines.proofs.row.row_line.Statement.{statement}
 use Rattle.cost_lines.proofs.row.row_line.Tie as tie
 
--- the ways back: from the filled line to the entry, from the winners to the filled line, and from write-out to the
+-- the ways back: from the filled line to the start, from the winners to the filled line, and from write-out to the
 -- winners
-abbrev entry : tie.After-fill → tie.Start
-entry c = c .before .before .before .before .before .before .before .before .before
+abbrev at-start : tie.After-fill → tie.Start
+at-start c = c .before .before .before .before .before .before .before .before .before
 
 abbrev filled : tie.After-winners-of → tie.After-fill
 filled c = c .before .before .before .before .before .before
@@ -36,31 +36,31 @@ inside : (c : tie.Start) → let w = length (c .args .values .now) in
 inside c = omega (arith, row-within (length (c .args .values .now)) (c .pre .1), c .pre .3)
 
 -- the filled line is one of the columns' ranks
-line : (c : tie.After-fill) → let a = entry c .args in let w = length (a .values .now) in
+line : (c : tie.After-fill) → let a = at-start c .args in let w = length (a .values .now) in
     Valued (words-part (a .y * w) w (a .scratch .now)) (c .fill .last .1 .1 .1 .1 .0)
     (λ i. cost-rank (a .g .kind) w (a .costs .now) (a .y) i (getD (words-part (a .y * w) w (a .scratch .now)) i 0))
 line c =
-    let s = entry c in
+    let s = at-start c in
     valued (s .args .scratch .now) (s .pre .0) (s .pre .1) (s .pre .2) (s .pre .3) (c .fill .kept .1 .1 .1 .1 .0)
     (c .fill .ensures)
 
 -- the scratch is as long as it was when the engine has used its tail
-room : (c : tie.After-winners-of) → let a = entry (filled c) .args in let w = length (a .values .now) in
+room : (c : tie.After-winners-of) → let a = at-start (filled c) .args in let w = length (a .values .now) in
     length (putMid (w * a .h) (w * a .h + w + w - w * a .h) (a .scratch .now) (c .winners-of .last .1 .1 .0))
     ≡ length (a .scratch .now)
 room c =
-    let a = entry (filled c) .args in
+    let a = at-start (filled c) .args in
     let w = length (a .values .now) in
     same-len-mid (w * a .h) (w * a .h + w + w - w * a .h) (a .scratch .now) (c .winners-of .last .1 .1 .0)
     (c .winners-of .kept .1 .1 .0)
 
 -- the row's words are where they were when the engine has used the tail
-stay : (c : tie.After-winners-of) → let a = entry (filled c) .args in let w = length (a .values .now) in
+stay : (c : tie.After-winners-of) → let a = at-start (filled c) .args in let w = length (a .values .now) in
     words-part (a .y * w) w (putMid (w * a .h) (w * a .h + w + w - w * a .h) (a .scratch .now)
     (c .winners-of .last .1 .1 .0))
     ≡ words-part (a .y * w) w (a .scratch .now)
 stay c =
-    let s = entry (filled c) in
+    let s = at-start (filled c) in
     let w = length (s .args .values .now) in
     words-stay (trust s) (w * s .args .h + w + w - w * s .args .h) (c .winners-of .last .1 .1 .0) (room c)
 
@@ -116,17 +116,17 @@ part-winners-of-end c = search needs
 winners-of-requires : tie.Need-winners-of-requires
 winners-of-requires c κs =
     let f = c .before .before .before .before .before in
-    let b = trust (entry f) in
+    let b = trust (at-start f) in
     let long = f .fill .kept .1 .1 .1 .1 .0 in (
       b .known,
       line-of (b .known) (line f),
       record { words = tail-length b ∙ ap (λ n. n + n) (sym long) },
-      entry f .pre .5 ∙ sym long,
+      at-start f .pre .5 ∙ sym long,
     )
 
 mul-write-out : tie.Need-mul-write-out
 mul-write-out c =
-    let s = entry (filled (c .before .before .before .before)) in
+    let s = at-start (filled (c .before .before .before .before)) in
     omega (arith, inside s)
 
 sub-write-out : tie.Need-sub-write-out
@@ -138,21 +138,21 @@ part-write-out-start c = search needs
 part-write-out-end : tie.Need-part-write-out-end
 part-write-out-end c =
     let w = c .before .before .before .before .before in
-    let s = entry (filled w) in
+    let s = at-start (filled w) in
     omega (arith, inside s, room w)
 
 write-out-requires : tie.Need-write-out-requires
 write-out-requires c κs =
     let f = filled (won c) in
-    let b = trust (entry f) in
+    let b = trust (at-start f) in
     let long = f .fill .kept .1 .1 .1 .1 .0 in (
       b .known,
       line-of (b .known) (line f),
       rw (stay (won c)) (chosen-of (b .known) (line f) (omega (arith, b .i₀-in)) (words-some b)
           (won c .winners-of .ensures)),
       ap length (stay (won c)) ∙ words-length b ∙ sym long,
-      entry f .pre .4 ∙ sym long,
-      won c .winners-of .kept .1 .1 .1 .0 ∙ entry f .pre .5 ∙ sym long,
+      at-start f .pre .4 ∙ sym long,
+      won c .winners-of .kept .1 .1 .1 .0 ∙ at-start f .pre .5 ∙ sym long,
     )
 
 same-length : tie.Need-same-length
@@ -172,7 +172,7 @@ returns c =
     let o = c .before .before .before .before in
     let w = won (o .before) in
     let f = filled w in
-    let s = entry f in
+    let s = at-start f in
     let n = length (s .args .values .now) in
     row-more (s .args .scratch .now) (s .pre .0) (s .pre .1) (s .pre .2) (s .pre .3) (f .fill .kept .1 .1 .1 .1 .0)
     (f .fill .ensures)

@@ -1,5 +1,5 @@
--- The bench file's answer, put together. The first test that holds gives the number. On a picture that a file bores and
--- that has a bore, none of a map call's tests holds, so the map is made; the first of its greatest words is the farthest,
+-- The bench file's answer, put together. The first test that holds gives the number. A picture that a file
+-- bores, and that has a bore, has what a kind 0 map asks, so the map is made; the first of its greatest words is the farthest,
 -- since each cell has one word. The picture is spoken of by a name, and only at the end as the file's.
 -- Assumes nothing.
 use mathlib.Core.Path.{_≡_, refl, _∙_, sym, ap, subst}
@@ -14,13 +14,13 @@ use lib.ListN.{length, getD, replicate}
 use Rattle.rules.specs.Limits.{bench-side}
 use Rattle.rules.specs.Board.{cell, column, row}
 use Rattle.rules.specs.BenchFile.{bore-all, bored-by, off-board, bores, BenchWord, Farthest}
-use Rattle.rules.specs.Refusals.{answer, bad-length, no-bore, scratch-words, picture-rows, file-rows}
-use Rattle.rules.specs.Accepted.{Bytes}
+use Rattle.rules.specs.Refusals.{answer, bad-length, no-bore, scratch-words, file-rows}
+use Rattle.rules.specs.Accepted.{PictureAccepted}
 use Rattle.rules.specs.Calls.{BenchCall}
 use Rattle.rules.proofs.Board.{cell-in, cell-of, column-below, row-below}
 use Rattle.rules.proofs.TieRule.{least-unique}
 use Rattle.rules.proofs.BenchFile.{bored-length, bored-bytes}
-use Rattle.rules.proofs.Refusals.{sides-good, kind-good, weights-good, buffers-good, bytes-good}
+use Rattle.rules.proofs.Refusals.{bored-somewhere}
 use Rattle.rules.proofs.Calls.{refused-call, made-call}
 use Rattle.bench_records.specs.Boring.{BoredBy}
 use Rattle.bench_file.specs.Reading.{Readable, Peak}
@@ -79,24 +79,21 @@ count-of {before = before} {fresh = fresh} sound B =
     let none : bores before ≡ 0 = ap bores sound ∙ bores-none cells in
     omega (arith, B .counted, none)
 
--- on a file's picture that has a bore no test of the map's call holds
-pub map-answers : (bytes : List ℕ) {picture : List ℕ} {distances sites scratch : ℕ} → picture ≡ bored-by bytes
+-- a file's picture that has a bore has what a kind 0 map asks
+pub map-accepted : (bytes : List ℕ) {picture : List ℕ} {distances sites scratch : ℕ} → picture ≡ bored-by bytes
     → no-bore picture ≡ false → distances ≡ bench-side * bench-side → sites ≡ bench-side * bench-side
     → scratch ≡ scratch-words bench-side bench-side
-    → answer (picture-rows bench-side bench-side 0 0 0 picture distances sites scratch) ≡ 0
-map-answers bytes {picture} {distances} {sites} {scratch} bored six d s t =
+    → PictureAccepted bench-side bench-side 0 0 0 picture distances sites scratch
+map-accepted bytes {picture} bored six d s t =
     let long : length picture ≡ bench-side * bench-side = ap length bored ∙ bored-length bytes in
-    let small : Bytes picture = λ k l. subst (λ p. getD p k 0 ≤ 1) (sym bored) (bored-bytes bytes k) in
-    rw (
-      sides-good bench-side bench-side
-          (record { width-from = lit≤ tt; width-to = lit≤ tt; height-from = lit≤ tt; height-to = lit≤ tt }),
-      kind-good 3 0 (omega arith),
-      weights-good 0 0 0 (λ z. absurd (omega arith)),
-      buffers-good bench-side bench-side (length picture) distances sites scratch
-          (record { picture-is = long; distances-from = omega arith; sites-from = omega arith; scratch-from = omega arith }),
-      bytes-good picture small,
-      six,
-    )
+    record {
+      sides = record { width-from = lit≤ tt; width-to = lit≤ tt; height-from = lit≤ tt; height-to = lit≤ tt };
+      kind-in = omega arith;
+      weights = λ e. absurd (omega arith);
+      lent = record { picture-is = long; distances-from = omega arith; sites-from = omega arith; scratch-from = omega arith };
+      bytes = λ k l. subst (λ p. getD p k 0 ≤ 1) (sym bored) (bored-bytes bytes k);
+      bored = bored-somewhere bench-side bench-side picture (lit< tt) long six;
+    }
 
 -- where a list holds each cell's word, the first of the greatest words is the farthest
 pub farthest-of : {picture words : List ℕ} {number : ℕ}

@@ -4,8 +4,7 @@ use bench_records::BOARD_SIDE;
 use bench_records::bad_length;
 use bench_records::bore;
 use bench_records::off_board;
-use maps::picture_map;
-use rules::BENCH_SIDE;
+use maps::row_map;
 use rules::BenchAnswer;
 ghost use Prim.Native.Nat.{_<_};
 ghost use lib.ListN.{length};
@@ -50,12 +49,9 @@ fn measure_on(
     if board_tests::no_bore(picture) {
         return BenchAnswer::Refused(6);
     }
-    // its tests pass on such a picture, so it answers 0
-    picture_map(
-        BENCH_SIDE,
-        BENCH_SIDE,
-        0,
-        0,
+    row_map(
+        BOARD_SIDE,
+        BOARD_SIDE,
         0,
         picture,
         distances,

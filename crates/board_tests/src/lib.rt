@@ -1,5 +1,6 @@
 // The tests of a board that more than one entry makes: rows of document 01's table. Each function is named as its rule and
 // answers whether its row holds.
+use rules::CHAMFER_KIND;
 use rules::SIDE_LIMIT;
 use rules::WEIGHT_LIMIT;
 ghost use Prim.Native.Nat.{_≤_};
@@ -27,7 +28,7 @@ pub fn bad_sides(w: u32, h: u32) -> bool
 pub fn bad_weights(kind: u32, d1: u32, d2: u32) -> bool
     ensures { λ r. ⌜ r ≡ bad-weights kind d1 d2 ⌝ }
 {
-    if kind != 3 {
+    if kind != CHAMFER_KIND {
         return false;
     }
     if d1 < 1 {

@@ -9,11 +9,12 @@ use native.Mathlib.Omega.{arith}
 use lib.ListN.{length, getD, set}
 use Rattle.rules.specs.Limits.{mark}
 use Rattle.rules.specs.Board.{cell}
+use Rattle.rules.proofs.Board.{row-ends}
 use Rattle.columns.specs.Words.{Carried}
 use Rattle.columns.specs.Bands.{Band}
 use Rattle.columns.specs.Rows.{BandRow, BandRows, Topped, Stepped, Lowered}
 use Rattle.columns.proofs.Column.{top, step-down}
-use Rattle.columns.proofs.Rows.{row-inside, Filling, unfilled, filling-more, rows-none, rows-more}
+use Rattle.columns.proofs.Rows.{Filling, unfilled, filling-more, rows-none, rows-more}
 
 -- a cell of row y is filled from the row over it
 pub stepped : (picture : List ℕ) {w start y a b x v : ℕ} {before words : List ℕ} → b ≤ w → w ≤ start →
@@ -83,7 +84,7 @@ module _ {w h a b : ℕ} (band : Band w h a b) {picture topped : List ℕ} where
     two-rows l =
         let m : y * w < h * w = omega (arith, s .start-is, mul-comm w h) in
         let inside : y < h = lt-of-mul-lt-mul-right w m in
-        (inside, omega (arith, s .start-is, mul-le-mul-right w (s .from)), row-inside w (s .start-is) inside)
+        (inside, omega (arith, s .start-is, mul-le-mul-right w (s .from)), row-ends w (s .start-is) inside)
 
     -- row y is done
     pub lowering-more : {after : List ℕ} → start < w * h →

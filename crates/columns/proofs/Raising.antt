@@ -9,12 +9,12 @@ use native.Mathlib.Nat.{le-refl, mul-le-mul-left, lt-of-mul-lt-mul-right}
 use native.Mathlib.Omega.{arith}
 use lib.ListN.{length, getD, set}
 use Rattle.rules.specs.Board.{cell}
-use Rattle.rules.proofs.Board.{cell-inj}
+use Rattle.rules.proofs.Board.{row-ends, cell-inj}
 use Rattle.columns.specs.Words.{Nearer}
 use Rattle.columns.specs.Bands.{Band}
 use Rattle.columns.specs.Rows.{BandRow, BandRows, Lifted, Raised}
 use Rattle.columns.proofs.Column.{bottom, step-up}
-use Rattle.columns.proofs.Rows.{row-inside, Filling, unfilled, filling-more, rows-more}
+use Rattle.columns.proofs.Rows.{Filling, unfilled, filling-more, rows-more}
 
 -- a cell of row y is filled from its own word and the row below
 pub lifted : {w start y a b x v : ℕ} {before words : List ℕ} → b ≤ w →
@@ -34,7 +34,7 @@ pub record Raising (w h a b : ℕ) (before words : List ℕ) (start y : ℕ) : T
 module _ {w h a b : ℕ} (band : Band w h a b) where
   -- the last row lies on the board
   pub last-inside : (h - 1) * w + w ≤ w * h
-  last-inside = row-inside w refl (omega (arith, band .sides .height-from))
+  last-inside = row-ends w refl (omega (arith, band .sides .height-from))
 
   -- the last row needs no step
   pub raising-start : {before : List ℕ} → Raising w h a b before before ((h - 1) * w) (h - 1)
@@ -65,7 +65,7 @@ module _ {w h a b : ℕ} (band : Band w h a b) where
 
       -- both rows lie on the board
       pub two-rows-up : (w ≤ start) × (start - w + w + w ≤ w * h)
-      two-rows-up = omega (arith, over, row-inside w (s .start-is) (s .inside))
+      two-rows-up = omega (arith, over, row-ends w (s .start-is) (s .inside))
 
       -- the row over y has what the down sweep left
       kept : {x : ℕ} → x < b → getD words (cell w x (y - 1)) 0 ≡ getD before (cell w x (y - 1)) 0

@@ -15,10 +15,6 @@ use Rattle.rules.specs.Board.{cell}
 use Rattle.rules.proofs.Board.{cell-inj}
 use Rattle.columns.specs.Rows.{BandRow, BandRows}
 
--- a row of the board ends on it
-pub row-inside : (w : ℕ) {h y start : ℕ} → start ≡ y * w → y < h → start + w ≤ w * h
-row-inside w {h} is l = omega (arith, mul-le-mul-right w l, mul-comm w h)
-
 -- a row is being filled from column a up to b, and has come to column x
 pub record Filling (start a b : ℕ) (Is : ℕ → ℕ → Type 0) (before words : List ℕ) (x : ℕ) : Type 0 where
   pub from : a ≤ x

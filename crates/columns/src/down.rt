@@ -24,7 +24,7 @@ fn top_row(a: usize, b: usize, picture: &[u8], words: &mut [u32])
     }
 }
 
-// BandRow y, which begins at `start`, from the row over it.
+// Row y, which begins at `start`, from the row over it.
 fn down_row(w: usize, start: usize, y: u32, a: usize, b: usize, picture: &[u8], words: &mut [u32])
     requires { ⌜ (a ≤ b) × (b ≤ w) × (w ≤ start) × (start + w ≤ length (now picture))
         × (start + w ≤ length (now words)) ⌝ }

@@ -1,5 +1,5 @@
 // The two sweeps over a band of columns, and the test of the band's bytes. A band is the columns a up to b, with a and
-// without b. BandRows are taken one after the other, so that memory is read in order.
+// without b. Rows are taken one after the other, so that memory is read in order.
 use crate::bytes::row_most;
 use crate::down::down_rows;
 use crate::up::up_rows;

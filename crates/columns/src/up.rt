@@ -19,7 +19,7 @@ fn nearer(y: u32, above: u32, below: u32) -> u32
     if below - y < y - above { below } else { above }
 }
 
-// BandRow y, which begins at `start`, from the row below it.
+// Row y, which begins at `start`, from the row below it.
 fn up_row(w: usize, start: usize, y: u32, a: usize, b: usize, words: &mut [u32])
     requires { ⌜ (a ≤ b) × (b ≤ w) × (start + w + w ≤ length (now words)) ⌝ }
     ensures { λ _. ⌜ BandRow start a b (Lifted start (start + w) y (now (words .entry)))

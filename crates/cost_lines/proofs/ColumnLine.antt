@@ -13,17 +13,17 @@ use borrow.Author.Count.{below-more}
 use borrow.Author.Tests.{eq-eqb, ne-eqb}
 use borrow.Rule.Slice.PartMut.{putMid}
 use lib.ListN.{length, getD}
-use Rattle.rules.specs.Limits.{side-limit, mark, cost-limit, line-limit}
+use Rattle.rules.specs.Limits.{side-limit, mark, cost-kind-limit, cost-limit, line-limit}
 use Rattle.rules.specs.Board.{cell, away, cost-at, Unmarked}
 use Rattle.rules.specs.Measures.{measure}
 use Rattle.rules.specs.Columns.{Nearest, ColumnWord, cost-rank}
 use Rattle.rules.specs.Refusals.{scratch-words}
 use Rattle.rules.proofs.Board.{cell-in}
-use Rattle.rules.proofs.Measures.{lawful}
+use Rattle.rules.proofs.Measures.{lawful, cost-parts}
 use Rattle.rules.proofs.Refusals.{getD-within}
 use Rattle.rules.proofs.Parts.{put-before}
 use Rattle.gauge.specs.declared.Gauge.{Gauge}
-use Rattle.gauge.specs.Line.{Known, Line, Wins, height-at}
+use Rattle.gauge.specs.Line.{Gauged, Wins, height-at}
 use Rattle.gauge.proofs.Places.{apart-below}
 use Rattle.rows.proofs.RowLine.{combine-small}
 use Rattle.cost_lines.specs.Lines.{Gathered, winner-word, Scattered}
@@ -37,15 +37,11 @@ within-limit {w = w} {costs = costs} P i j l m n =
     let same = getD-within costs (cell w i j) mark 0 within in
     ⊎-elim (λ c. omega (arith, same)) (λ e. absurd (n (same ∙ e))) (P .costs-in (cell w i j) within)
 
--- in kinds 0 and 1 a value is added to the lifted difference
-added : (kind dx v : ℕ) → kind ≤ 1 → measure kind .combine dx v ≡ measure kind .lift dx + v
+-- in the kinds of costs a value is added to the lifted difference
+added : (kind dx v : ℕ) → kind ≤ cost-kind-limit → measure kind .combine dx v ≡ measure kind .lift dx + v
 added zero dx v l = refl
 added (suc zero) dx v l = refl
 added (suc (suc k)) dx v l = absurd (omega arith)
-
--- the engine knows the kinds of costs
-pub known : (g : Gauge) → g .kind ≤ 1 → Known g
-known g l = record { kind-in = omega arith }
 
 module _ {g : Gauge} {w h x : ℕ} {costs values : List ℕ} (P : FitAccepted (g .kind) w h costs) (x-in : x < w)
     (long : length values ≡ h) (G : Gathered w x costs values) where
@@ -57,16 +53,19 @@ module _ {g : Gauge} {w h x : ℕ} {costs values : List ℕ} (P : FitAccepted (g
   marked-value j l e = G .each j (omega arith) ∙ rw (eq-eqb (cost-at w costs x j) mark e)
 
   -- the values of a column are a line
-  pub column-is-line : Line values
-  column-is-line =
+  pub column-line : Gauged g values
+  column-line =
       record {
-        from = omega (arith, P .sides .height-from);
-        to = omega (arith, P .sides .height-to);
-        values-to =
-            λ j below.
-            let l : j < h = omega arith in
-            by-cases (ℕ-discrete (cost-at w costs x j) mark) (λ e. omega (arith, marked-value j l e))
-            (λ n. omega (arith, true-value j l n, within-limit P x j x-in l n));
+        parts = cost-parts (P .kind-in);
+        line = record {
+          from = omega (arith, P .sides .height-from);
+          to = omega (arith, P .sides .height-to);
+          values-to =
+              λ j below.
+              let l : j < h = omega arith in
+              by-cases (ℕ-discrete (cost-at w costs x j) mark) (λ e. omega (arith, marked-value j l e))
+              (λ n. omega (arith, true-value j l n, within-limit P x j x-in l n));
+        };
       }
 
   -- a cell that has a cost is as high as its rank, and lower than the line limit
@@ -88,7 +87,7 @@ module _ {g : Gauge} {w h x : ℕ} {costs values : List ℕ} (P : FitAccepted (g
   unfolding height-at
   high j y l e =
       subst (λ b. b ≤ height-at g values j y) (marked-value j l e)
-      (lawful (g .kind) (omega (arith, P .kind-in)) .stands (away y j) (getD values j 0))
+      (lawful (g .kind) (cost-parts (P .kind-in)) .stands (away y j) (getD values j 0))
 
   module _ {y j : ℕ} (y-in : y < h) (W : Wins (height-at g values) (length values) y j) where
     winner-in : j < h

@@ -1,11 +1,11 @@
 -- From the column words of a cost picture to the map of one row. The word of a column that has a cost names the
 -- nearest of its rows by rank, and the column stands at that rank; a column that has none stands at the line limit. So
--- the line is one that the rows' own laws speak of, and the step from columns to rows gives the map. Assumes nothing.
-use mathlib.Core.Path.{_≡_, sym, _∙_}
+-- the line is one that the rows can read, and the step from columns to rows makes the map of what comes of it. Assumes nothing.
+use mathlib.Core.Path.{_≡_, refl, _∙_}
 use mathlib.Core.Logic.{_≢_, inl, inr, by-cases}
 use mathlib.Core.List.{List}
 use Prim.Native.Nat.{ℕ, _+_, _-_, _*_, _^_, _≤_, _<_}
-use native.Mathlib.Nat.{lt-of-le-of-lt, mul-le-mul-right}
+use native.Mathlib.Nat.{lt-of-le-of-lt}
 use native.Mathlib.Decide.{ℕ-discrete}
 use native.Mathlib.Omega.{arith}
 use borrow.Author.Count.{below-more}
@@ -13,39 +13,33 @@ use borrow.Author.Tests.{eq-eqb, ne-eqb}
 use borrow.Rule.Slice.PartMut.{putMid, same-len-mid}
 use lib.ListN.{length, getD, take, drop}
 use Rattle.rules.specs.Limits.{side-limit, mark}
-use Rattle.rules.specs.Board.{cell, away, Unmarked}
-use Rattle.rules.specs.Columns.{ColumnWord, cost-rank}
+use Rattle.rules.specs.Board.{cell, away}
+use Rattle.rules.specs.Columns.{cost-rank}
 use Rattle.rules.specs.Tie.{CostMapWord, CostMapSite}
 use Rattle.rules.specs.Refusals.{scratch-words}
-use Rattle.rules.proofs.Board.{cell-in}
-use Rattle.rules.proofs.Columns.{cost-step}
-use Rattle.rules.proofs.Measures.{lawful, additive}
+use Rattle.rules.proofs.Board.{cell-in, row-ends}
+use Rattle.rules.proofs.Columns.{row-word-same, cost-step}
+use Rattle.rules.proofs.Measures.{cost-parts}
 use Rattle.rules.proofs.Parts.{part-length, put-before, put-inside}
 use Rattle.gauge.specs.declared.Gauge.{Gauge}
-use Rattle.gauge.specs.Line.{Wins, height-at}
 use Rattle.gauge.proofs.Places.{apart-below}
-use Rattle.rows.specs.Row.{Believed, RowWritten}
-use Rattle.rows.proofs.RowLine.{lift-small, Valued, words-part, words-length, words-at, words-some, row-of}
+use Rattle.rows.specs.Row.{Believed, LineRead, LineOut}
+use Rattle.rows.proofs.RowLine.{lift-small, words-part, words-length, words-at}
 use Rattle.cost_lines.specs.Lines.{Priced, Ranked, column-value}
 use Rattle.cost_lines.specs.After.{FitAccepted, ColumnsAfter, RowAfter, RowsAfter, RowMore}
-use Rattle.cost_lines.proofs.ColumnLine.{within-limit, known}
-
--- a row of the board stands within its cells
-pub row-within : (w : ℕ) {h y : ℕ} → y < h → y * w + w ≤ w * h
-row-within w {h} {y} l = let m : (y + 1) * w ≤ h * w = mul-le-mul-right w (omega arith) in omega arith
+use Rattle.cost_lines.proofs.ColumnLine.{within-limit}
 
 module _ {g : Gauge} {w h y : ℕ} {costs : List ℕ} (scratch : List ℕ) (P : FitAccepted (g .kind) w h costs) (y-in : y < h)
     (C : ColumnsAfter (g .kind) w h costs scratch w) (room : length scratch ≡ scratch-words w h) where
-  -- what the rows' own laws ask of the words
-  pub believed : Believed g y (y * w) (w * h) scratch w
+  -- what a row line asks of the words
+  pub believed : Believed g (y * w) (w * h) scratch w
   believed =
       let (i₀, j₀, column-in, row-in, unmarked) = P .unmarked in
       record {
-        known = known g (P .kind-in);
-        row-in = omega (arith, P .sides .height-to);
+        parts = cost-parts (P .kind-in);
         from = P .sides .width-from;
         to = P .sides .width-to;
-        before-tail = row-within w y-in;
+        before-tail = row-ends w refl y-in;
         room = omega arith;
         named =
             λ i l.
@@ -56,30 +50,27 @@ module _ {g : Gauge} {w h y : ℕ} {costs : List ℕ} (scratch : List ℕ) (P : 
         i₀-named = λ e. C i₀ column-in y y-in .empty e j₀ row-in unmarked;
       }
 
-  -- the words of the row, in the part that fill is lent, are the columns'
-  columns : (i : ℕ) → i < w
-      → ColumnWord h (Unmarked w costs i) (cost-rank (g .kind) w costs y i) (getD (words-part (y * w) w scratch) i 0)
-  columns i l = rw (words-at believed i l) (C i l y y-in)
-
   -- each of them is the mark or names a cell that has a cost
-  priced : (i : ℕ) → i < w → Priced w costs i (getD (words-part (y * w) w scratch) i 0)
+  priced : (i : ℕ) → i < w → Priced w costs i (getD scratch (cell w i y) 0)
   priced i l =
-      by-cases (ℕ-discrete (getD (words-part (y * w) w scratch) i 0) mark) (λ e. inr e)
+      by-cases (ℕ-discrete (getD scratch (cell w i y) 0) mark) (λ e. inr e)
       (λ n.
-      let r = columns i l .named n .row-in in
+      let r = C i l y y-in .named n .row-in in
       inl (omega (arith, P .sides .height-to), omega (arith, cell-in l r, P .lent .picture-is)))
 
-  -- the same over the length of that part, as fill asks it
+  -- the same over the part that fill is lent, as it asks it
   pub priced-part : (i : ℕ) → i < length (words-part (y * w) w scratch)
       → Priced (length (words-part (y * w) w scratch)) costs i (getD (words-part (y * w) w scratch) i 0)
-  priced-part i l = rw (words-length believed) (priced i (omega (arith, words-length believed)))
+  priced-part i l =
+      let l′ : i < w = omega (arith, words-length believed) in
+      rw (words-length believed, words-at believed i l′) (priced i l′)
 
   -- the rank of a row that a word names is small
-  rank-small : (i : ℕ) → i < w → getD (words-part (y * w) w scratch) i 0 ≢ mark
-      → cost-rank (g .kind) w costs y i (getD (words-part (y * w) w scratch) i 0) < 2 ^ 31
+  rank-small : (i : ℕ) → i < w → getD scratch (cell w i y) 0 ≢ mark
+      → cost-rank (g .kind) w costs y i (getD scratch (cell w i y) 0) < 2 ^ 31
   rank-small i l n =
-      let word = getD (words-part (y * w) w scratch) i 0 in
-      let N = columns i l .named n in
+      let word = getD scratch (cell w i y) 0 in
+      let N = C i l y y-in .named n in
       let below : word < side-limit = omega (arith, N .row-in, P .sides .height-to) in
       let near : away y word < side-limit = lt-of-le-of-lt (apart-below y word) (omega (arith, P .sides .height-to)) in
       omega (arith, lift-small (g .kind) near, within-limit P i word l (N .row-in) (N .feature))
@@ -87,45 +78,41 @@ module _ {g : Gauge} {w h y : ℕ} {costs : List ℕ} (scratch : List ℕ) (P : 
   module _ {values : List ℕ} (long : length values ≡ w)
       (R : Ranked (g .kind) y costs (words-part (y * w) w scratch) values) where
     -- what fill has put for column i
-    filled : (i : ℕ) → i < length values
-        → getD values i 0 ≡ column-value (g .kind) w costs y i (getD (words-part (y * w) w scratch) i 0)
-    filled i l = rw (words-length believed) at (R .each i (omega (arith, words-length believed)))
+    filled : (i : ℕ) → i < w
+        → getD values i 0 ≡ column-value (g .kind) w costs y i (getD scratch (cell w i y) 0)
+    filled i l =
+        rw (words-length believed, words-at believed i l) at (R .each i (omega (arith, words-length believed)))
 
-    -- the values that fill puts are a line that the rows' laws speak of
-    pub valued : Valued (words-part (y * w) w scratch) values
-        (λ i. cost-rank (g .kind) w costs y i (getD (words-part (y * w) w scratch) i 0))
-    valued =
+    -- for a column that names a row that is its rank
+    ranked : (i : ℕ) → i < w → getD scratch (cell w i y) 0 ≢ mark
+        → getD values i 0 ≡ cost-rank (g .kind) w costs y i (getD scratch (cell w i y) 0)
+    ranked i l n = filled i l ∙ rw (ne-eqb (getD scratch (cell w i y) 0) mark n)
+
+    -- the values that fill puts are a line that can be read
+    pub line-read : LineRead g (y * w) (w * h) scratch values
+    line-read =
         record {
-          as-long = words-length believed ∙ sym long;
-          from = omega (arith, P .sides .width-from);
-          to = omega (arith, P .sides .width-to);
-          named =
-              λ i l.
-              rw (words-at believed i (omega arith)) (believed .named i (omega arith));
-          true-value = λ i l n. filled i l ∙ rw (ne-eqb (getD (words-part (y * w) w scratch) i 0) mark n);
-          small = λ i l n. rank-small i (omega arith) n;
-          marked-value = λ i l e. filled i l ∙ rw (eq-eqb (getD (words-part (y * w) w scratch) i 0) mark e);
+          believed = rw long believed;
+          small = λ i l n. omega (arith, ranked i (omega arith) n, rank-small i (omega arith) n);
+          marked = λ i l e. filled i (omega arith) ∙ rw (eq-eqb (getD scratch (cell w i y) 0) mark e);
         }
 
-    module _ {winners distances sites : List ℕ}
-        (W : (x : ℕ) → x < length values → Wins (height-at g values) (length values) x (getD winners x 0))
-        (O : RowWritten g (words-part (y * w) w scratch) values winners distances sites) where
-      -- what is written out is the row's map
+    module _ {after distances sites : List ℕ}
+        (O : LineOut g (y * w) (w * h) scratch values after distances sites) where
+      -- what comes of it is the row's map
       row-map : (x : ℕ) → x < w → CostMapWord (g .kind) w h costs x y (getD distances x 0)
           × CostMapSite (g .kind) w h costs x y (getD sites x 0)
       row-map x l =
-          let some : believed .i₀ < length values = omega (arith, believed .i₀-in) in
-          let row = row-of (known g (P .kind-in)) valued some (words-some believed) W O x (omega arith) in
-          cost-step (g .kind) w h costs x y (λ i. getD (words-part (y * w) w scratch) i 0) (omega (arith, P .kind-in))
-          (lawful (g .kind) (omega (arith, P .kind-in))) (additive (g .kind) (omega (arith, P .kind-in))) columns (rw long at row)
+          let row = rw long at (O .row x (omega arith)) in
+          cost-step (g .kind) w h costs x y (λ i. getD scratch (cell w i y) 0) (P .kind-in) (λ i b. C i b y y-in)
+          (row-word-same (λ i b. refl) ranked row)
 
-      -- the row made, from what the three steps leave
-      pub row-more : (k : ℕ) (part : List ℕ)
-          → RowMore (g .kind) w h y costs scratch (putMid (w * h) k scratch part) distances sites
-      row-more k part =
+      -- the row made
+      pub row-more : RowMore (g .kind) w h y costs scratch after distances sites
+      row-more =
           record {
             made = record { words = λ x l. row-map x l .0; names = λ x l. row-map x l .1 };
-            kept = λ j l. put-before k scratch part (omega arith) l;
+            kept = O .used .kept;
           }
 
 -- a row that stands elsewhere with the same words and sites is made too
@@ -140,7 +127,7 @@ pub record Crossing (kind w h : ℕ) (costs values scratch distances sites : Lis
   pub distances-long : length distances ≡ w * h
   pub sites-long : length sites ≡ w * h
   pub columns : ColumnsAfter kind w h costs scratch w
-  pub left : RowsAfter kind w h costs distances sites y
+  pub made : RowsAfter kind w h costs distances sites y
   pub within : y ≤ h
 
 -- the part of a list that row y is
@@ -154,20 +141,20 @@ row-put w y l part = putMid (y * w) (y * w + w - y * w) l part
 -- the part that is lent for a row is as long as the board is wide
 pub row-part-long : (w : ℕ) {h y : ℕ} (l : List ℕ) → y < h → length l ≡ w * h → length (row-part w y l) ≡ w
 row-part-long w {h} {y} l y-in long =
-    part-length {a = y * w} {e = y * w + w} l (omega arith) (omega (arith, row-within w y-in)) ∙ omega arith
+    part-length {a = y * w} {e = y * w + w} l (omega arith) (omega (arith, row-ends w refl y-in)) ∙ omega arith
 
 -- what stands in the row is what came back
 row-inside : (w : ℕ) {h y : ℕ} (l part : List ℕ) → y < h → length l ≡ w * h → length part ≡ w → (x : ℕ) → x < w
     → getD (row-put w y l part) (cell w x y) 0 ≡ getD part x 0
 row-inside w {h} {y} l part y-in long short x x-in =
-    put-inside {a = y * w} (y * w + w - y * w) l part (omega (arith, row-within w y-in)) (omega arith)
+    put-inside {a = y * w} (y * w + w - y * w) l part (omega (arith, row-ends w refl y-in)) (omega arith)
 
 -- what stands above it stays
 row-above : (w : ℕ) {h y : ℕ} (l part : List ℕ) → y < h → length l ≡ w * h → (x j : ℕ) → x < w → j < y
     → getD (row-put w y l part) (cell w x j) 0 ≡ getD l (cell w x j) 0
 row-above w {h} {y} l part y-in long x j x-in j-in =
-    put-before {a = y * w} (y * w + w - y * w) l part (omega (arith, row-within w y-in))
-    (omega (arith, row-within w j-in))
+    put-before {a = y * w} (y * w + w - y * w) l part (omega (arith, row-ends w refl y-in))
+    (omega (arith, row-ends w refl j-in))
 
 -- one row more
 pub crossing-more : {kind w h y : ℕ} {costs values scratch distances sites values′ scratch′ : List ℕ}
@@ -188,10 +175,10 @@ crossing-more {kind} {w} {h} {y} {costs} {scratch = scratch} {distances = distan
       distances-long = same-len-mid (y * w) (y * w + w - y * w) distances word-part d ∙ X .distances-long;
       sites-long = same-len-mid (y * w) (y * w + w - y * w) sites site-part n ∙ X .sites-long;
       columns = λ i l j m. rw (M′ .kept (cell w i j) (cell-in l m)) (X .columns i l j m);
-      left =
+      made =
           below-more (λ j. RowAfter kind w h costs j (λ x. getD (row-put w y distances word-part) (cell w x j) 0)
           (λ x. getD (row-put w y sites site-part) (cell w x j) 0)) y
-          (λ j l. row-same (X .left j l) (λ x m. row-above w distances word-part y-in (X .distances-long) x j m l)
+          (λ j l. row-same (X .made j l) (λ x m. row-above w distances word-part y-in (X .distances-long) x j m l)
           (λ x m. row-above w sites site-part y-in (X .sites-long) x j m l))
           (row-same (M′ .made) (row-inside w distances word-part y-in (X .distances-long) d′)
           (row-inside w sites site-part y-in (X .sites-long) n′));

@@ -1,10 +1,9 @@
-// The rows of a cost picture: from the column words to the map. The fill is the costs' own; the engine and the
-// write-out are those of pictures.
-use envelope::winners_of;
+// The rows of a cost picture: from the column words to the map. The fill is the costs' own; what comes of a filled line
+// is the rows' own function.
 use gauge::Gauge;
 use gauge::apart;
 use gauge::lifted;
-use rows::write_out;
+use rows::line_out;
 use rules::LINE_LIMIT;
 use rules::MARK;
 use rules::as_index;
@@ -13,14 +12,14 @@ ghost use mathlib.Core.Path.{_≡_};
 ghost use lib.ListN.{length, getD};
 ghost use Rattle.rules.specs.Limits.{side-limit};
 ghost use Rattle.rules.specs.Refusals.{scratch-words};
-ghost use Rattle.gauge.specs.Line.{Known};
+ghost use Rattle.rules.specs.Measures.{HasParts};
 ghost use Rattle.cost_lines.specs.Lines.{Priced, column-value, Ranked};
 ghost use Rattle.cost_lines.specs.After.{FitAccepted, ColumnsAfter, RowsAfter, RowMore};
 
 // What column i stands at in row y: the difference of rows to the row that its word names, lifted, and the cost there;
 // or a value above every true one for a column with no feature.
 fn column_value(g: Gauge, w: usize, y: usize, i: usize, word: u32, costs: &[u32]) -> u64
-    requires { ⌜ Known g × (y < side-limit) × Priced w (now costs) i word ⌝ }
+    requires { ⌜ HasParts (g .kind) × (y < side-limit) × Priced w (now costs) i word ⌝ }
     ensures { λ r. ⌜ r ≡ column-value (g .kind) w (now (costs .entry)) y i word ⌝ }
 {
     if word == MARK {
@@ -33,7 +32,7 @@ fn column_value(g: Gauge, w: usize, y: usize, i: usize, word: u32, costs: &[u32]
 
 // Fill for costs: the values of row y from its words.
 fn fill(g: Gauge, y: usize, costs: &[u32], words: &[u32], values: &mut [u64])
-    requires { ⌜ Known g × (y < side-limit) × (length (now values) ≡ length (now words))
+    requires { ⌜ HasParts (g .kind) × (y < side-limit) × (length (now values) ≡ length (now words))
         × ((i : ℕ) → i < length (now words) → Priced (length (now words)) (now costs) i (getD (now words) i 0)) ⌝ }
     ensures { λ _. ⌜ Ranked (g .kind) y (now (costs .entry)) (now (words .entry)) (now (values .exit)) ⌝ }
 {
@@ -66,11 +65,8 @@ fn row_line(
     let w = values.len();
     let at = y * w;
     let end = at + w;
-    let tail = w * h;
-    let rest = tail + w + w;
     fill(g, y, costs, &scratch[at..end], values);
-    winners_of(g, values, &mut scratch[tail..rest], sites);
-    write_out(g, &scratch[at..end], values, distances, sites);
+    line_out(g, at, w * h, scratch, values, distances, sites);
 }
 
 // Every row, from the top.

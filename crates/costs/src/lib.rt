@@ -2,7 +2,7 @@
 use board_tests::scratch_words;
 use cost_lines::columns_and_rows;
 use gauge::Gauge;
-use refusals::cost::cost_refusal;
+use refusals::cost_rows::cost_refusal;
 use rules::SIDE_LIMIT;
 use set_words::set_front;
 ghost use lib.ListN.{length};

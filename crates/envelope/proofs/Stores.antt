@@ -6,18 +6,19 @@ use Prim.Native.Nat.{ℕ, _+_, _-_, _≤_, _<_}
 use native.Mathlib.Omega.{arith}
 use lib.ListN.{length, getD, set, length-set}
 use lib.Seq.{getD-set-same, getD-set-other}
+use Rattle.rules.specs.Measures.{HasParts}
 use Rattle.rules.proofs.Measures.{lawful}
 use Rattle.gauge.specs.declared.Gauge.{Gauge}
-use Rattle.gauge.specs.Line.{Known, height-at}
+use Rattle.gauge.specs.Line.{height-at}
 use Rattle.gauge.specs.Places.{Place}
 use Rattle.envelope.specs.Stretches.{starts, holders, Kept, Begins, Turn}
 
--- for a gauge that the engine knows, the places where a column holds are an initial stretch
-pub initial : (g : Gauge) → Known g → (values : List ℕ) (u i x x′ : ℕ) → i < u → x′ ≤ x
+-- the places where a column holds are an initial stretch
+pub initial : (g : Gauge) → HasParts (g .kind) → (values : List ℕ) (u i x x′ : ℕ) → i < u → x′ ≤ x
     → height-at g values i x ≤ height-at g values u x → height-at g values i x′ ≤ height-at g values u x′
 unfolding height-at
-initial g k values u i x x′ l h t =
-    lawful (g .kind) (k .kind-in) .stretch i u (getD values i 0) (getD values u 0) x x′ l h t
+initial g p values u i x x′ l h t =
+    lawful (g .kind) p .stretch i u (getD values i 0) (getD values u 0) x x′ l h t
 
 module _ {height : ℕ → ℕ → ℕ} {n u m kept place : ℕ} (work : List ℕ) (K : Kept height u m (starts work) (holders n work) kept)
     (B : Begins height n u (holders n work) kept place) where

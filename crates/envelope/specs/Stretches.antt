@@ -5,7 +5,8 @@ use mathlib.Core.Path.{_≡_}
 use mathlib.Core.List.{List}
 use Prim.Native.Nat.{ℕ, _+_, _≤_, _<_}
 use lib.ListN.{length, getD}
-use Rattle.gauge.specs.Line.{Wins}
+use Rattle.gauge.specs.declared.Gauge.{Gauge}
+use Rattle.gauge.specs.Line.{Gauged, Wins}
 use Rattle.gauge.specs.Places.{Place}
 
 -- where the stretches are kept: the starts in the first n work words, the holders in the n after them
@@ -15,9 +16,10 @@ starts work k = getD work k 0
 abbrev pub holders : ℕ → List ℕ → ℕ → ℕ
 holders n work k = getD work (n + k) 0
 
--- the work words have room for the stretches of a line
-pub record Room (values work : List ℕ) : Type 0 where
-  pub words : length work ≡ length values + length values
+-- what every function of the engine is given: a gauge and a line, and work words with room for the line's stretches
+pub record Given (g : Gauge) (values work : List ℕ) : Type 0 where
+  pub gauged : Gauged g values
+  pub room : length work ≡ length values + length values
 
 -- the place x lies in stretch k
 pub record Within (n m : ℕ) (t : ℕ → ℕ) (k x : ℕ) : Type 0 where

@@ -9,8 +9,8 @@ ghost use Prim.Native.Nat.{ℕ, _+_, _≤_, _<_};
 ghost use mathlib.Core.Path.{_≡_};
 ghost use lib.Dec.{leb};
 ghost use lib.ListN.{length, getD};
-ghost use Rattle.gauge.specs.Line.{Known, Line, Wins, height-at};
-ghost use Rattle.envelope.specs.Stretches.{starts, holders, Room, Stretches, Kept, Against, Begins, Turn, Spreads, Spread};
+ghost use Rattle.gauge.specs.Line.{Wins, height-at};
+ghost use Rattle.envelope.specs.Stretches.{starts, holders, Given, Stretches, Kept, Against, Begins, Turn, Spreads, Spread};
 
 // What a turn leaves: how many stretches were kept when its column came, and how many there are now.
 pub struct Turned {
@@ -20,7 +20,7 @@ pub struct Turned {
 
 // Whether stretch k stays when column u comes: u is not strictly lower at its start.
 fn stays(g: Gauge, values: &[u64], work: &[u32], k: usize, u: usize) -> bool
-    requires { ⌜ Known g × Line (now values) × Room (now values) (now work) × (u < length (now values)) × (k < length (now values))
+    requires { ⌜ Given g (now values) (now work) × (u < length (now values)) × (k < length (now values))
         × (starts (now work) k < length (now values)) × (holders (length (now values)) (now work) k < length (now values)) ⌝ }
     ensures { λ r. ⌜ r ≡ leb
         (height-at g (now (values .entry)) (holders (length (now (values .entry))) (now (work .entry)) k) (starts (now (work .entry)) k))
@@ -34,7 +34,7 @@ fn stays(g: Gauge, values: &[u64], work: &[u32], k: usize, u: usize) -> bool
 
 // How many of the m stretches are kept when column u comes: those that do not stay are taken off from the right.
 fn keep(g: Gauge, values: &[u64], work: &[u32], m: usize, u: usize) -> usize
-    requires { ⌜ Known g × Line (now values) × Room (now values) (now work) × (u < length (now values))
+    requires { ⌜ Given g (now values) (now work) × (u < length (now values))
         × Stretches (height-at g (now values)) (length (now values)) u m (starts (now work)) (holders (length (now values)) (now work)) ⌝ }
     ensures { λ r. ⌜ Kept (height-at g (now (values .entry))) u m (starts (now (work .entry)))
         (holders (length (now (values .entry))) (now (work .entry))) r ⌝ }
@@ -52,7 +52,7 @@ fn keep(g: Gauge, values: &[u64], work: &[u32], m: usize, u: usize) -> usize
 
 // Where column u begins: at the first place if no stretch is kept, else where the last one kept stops holding.
 fn begin(g: Gauge, values: &[u64], work: &[u32], kept: usize, u: usize) -> usize
-    requires { ⌜ Known g × Line (now values) × Room (now values) (now work) × (u < length (now values)) × (kept ≤ length (now values))
+    requires { ⌜ Given g (now values) (now work) × (u < length (now values)) × (kept ≤ length (now values))
         × Against (height-at g (now values)) u (holders (length (now values)) (now work)) kept ⌝ }
     ensures { λ r. ⌜ Begins (height-at g (now (values .entry))) (length (now (values .entry))) u
         (holders (length (now (values .entry))) (now (work .entry))) kept r ⌝ }
@@ -67,7 +67,7 @@ fn begin(g: Gauge, values: &[u64], work: &[u32], kept: usize, u: usize) -> usize
 
 // One turn of scan 3, with column u.
 fn turn(g: Gauge, values: &[u64], work: &mut [u32], m: usize, u: usize) -> Turned
-    requires { ⌜ Known g × Line (now values) × Room (now values) (now work) × (u < length (now values))
+    requires { ⌜ Given g (now values) (now work) × (u < length (now values))
         × Stretches (height-at g (now values)) (length (now values)) u m (starts (now work)) (holders (length (now values)) (now work)) ⌝ }
     ensures { λ r. ⌜ Turn (height-at g (now (values .entry))) (length (now (values .entry))) u m
         (starts (now (work .entry))) (holders (length (now (values .entry))) (now (work .entry)))
@@ -90,7 +90,7 @@ fn turn(g: Gauge, values: &[u64], work: &mut [u32], m: usize, u: usize) -> Turne
 
 // Scan 3: the stretches of the whole line. Answers how many there are.
 fn build(g: Gauge, values: &[u64], work: &mut [u32]) -> usize
-    requires { ⌜ Known g × Line (now values) × Room (now values) (now work) ⌝ }
+    requires { ⌜ Given g (now values) (now work) ⌝ }
     ensures { λ r. ⌜ Stretches (height-at g (now (values .entry))) (length (now (values .entry))) (length (now (values .entry))) r
         (starts (now (work .exit))) (holders (length (now (values .entry))) (now (work .exit))) ⌝ }
 {
@@ -126,7 +126,7 @@ fn spread(work: &[u32], m: usize, winners: &mut [u32])
 
 // The engine: at each place of the line the least column whose curve is lowest there.
 pub fn winners_of(g: Gauge, values: &[u64], work: &mut [u32], winners: &mut [u32])
-    requires { ⌜ Known g × Line (now values) × Room (now values) (now work) × (length (now winners) ≡ length (now values)) ⌝ }
+    requires { ⌜ Given g (now values) (now work) × (length (now winners) ≡ length (now values)) ⌝ }
     ensures { λ _. ⌜ ((x : ℕ) → x < length (now (values .entry))
         → Wins (height-at g (now (values .entry))) (length (now (values .entry))) x (getD (now (winners .exit)) x 0)) ⌝ }
 {

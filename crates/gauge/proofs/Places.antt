@@ -8,7 +8,7 @@ use Prim.Native.Nat.{ℕ, zero, suc, _+_, _-_, _*_, _/_, _≤_, _<_, min, max}
 use native.Mathlib.Nat.{le-div-iff-mul-le, mul-add, lt-of-not-le}
 use native.Mathlib.Omega.{arith}
 use Rattle.rules.specs.Board.{away}
-use Rattle.rules.specs.Measures.{measure, HoldsAt}
+use Rattle.rules.specs.Measures.{HasParts, measure, HoldsAt}
 use Rattle.rules.proofs.Board.{away-square, Lies, lies, left, between, right}
 use lib.ListN.{length, getD}
 use Rattle.gauge.specs.declared.Gauge.{Gauge}
@@ -109,9 +109,9 @@ pub apart-below : (x i : ℕ) → away x i ≤ max x i
 unfolding away
 apart-below x i = omega arith
 
--- a kind below 3 that is neither 0 nor 1 is 2
-pub third-kind : {kind : ℕ} → kind < 3 → (kind ≡ 0 → ⊥) → (kind ≡ 1 → ⊥) → kind ≡ 2
-third-kind l a b = omega arith
+-- a kind that has parts, and is neither 0 nor 1, is 2
+pub third-kind : {kind : ℕ} → HasParts kind → (kind ≡ 0 → ⊥) → (kind ≡ 1 → ⊥) → kind ≡ 2
+third-kind p a b = omega (arith, p .kind-in, p .no-chamfer)
 
 -- in the other kinds but 0 a difference of rows is lifted to itself
 pub flat-lift : (kind dy : ℕ) → (kind ≡ 0 → ⊥) → dy ≡ measure kind .lift dy

@@ -7,16 +7,12 @@ use Prim.Native.Nat.{ℕ, _≤_, _<_}
 use lib.ListN.{getD, length}
 use Rattle.rules.specs.Limits.{side-limit, line-limit}
 use Rattle.rules.specs.Board.{away}
-use Rattle.rules.specs.Measures.{Measure, measure}
+use Rattle.rules.specs.Measures.{Measure, measure, HasParts}
 use Rattle.gauge.specs.declared.Gauge.{Gauge}
 
 -- the measure that a gauge stands for
 abbrev pub measured : Gauge → Measure
 measured g = measure (g .kind)
-
--- a gauge that the engine knows: kinds 0 to 2
-pub record Known (g : Gauge) : Type 0 where
-  pub kind-in : g .kind < 3
 
 -- the height of column i at the place x
 unfoldable pub height-at : Gauge → List ℕ → ℕ → ℕ → ℕ
@@ -27,6 +23,11 @@ pub record Line (values : List ℕ) : Type 0 where
   pub from : 1 ≤ length values
   pub to : length values ≤ side-limit
   pub values-to : (i : ℕ) → i < length values → getD values i 0 ≤ line-limit
+
+-- what a function along a line is given: a gauge whose kind has parts, and the line
+pub record Gauged (g : Gauge) (values : List ℕ) : Type 0 where
+  pub parts : HasParts (g .kind)
+  pub line : Line values
 
 -- of the columns below n, i has the lowest curve at x, and is the least column that has it
 pub record Wins (height : ℕ → ℕ → ℕ) (n x i : ℕ) : Type 0 where

@@ -5,15 +5,15 @@ use crossing::last_euclid;
 ghost use Prim.Native.Nat.{_+_, _*_, _≤_, _<_};
 ghost use mathlib.Core.Path.{_≡_};
 ghost use lib.ListN.{length};
-ghost use Rattle.rules.specs.Limits.{side-limit, line-limit};
+ghost use Rattle.rules.specs.Limits.{side-limit, line-limit, lift-limit};
 ghost use Rattle.rules.specs.Board.{away};
-ghost use Rattle.rules.specs.Measures.{HoldsAt, measure};
-ghost use Rattle.gauge.specs.Line.{measured, Known, Line, height-at};
+ghost use Rattle.rules.specs.Measures.{HasParts, HoldsAt, measure};
+ghost use Rattle.gauge.specs.Line.{measured, Gauged, height-at};
 ghost use Rattle.gauge.specs.Places.{Pair, Last, Place};
 
 pub mod crossing;
 
-// The measure of a line: kind 0, 1 or 2.
+// The measure of a line: a kind that has parts.
 pub struct Gauge {
     pub kind: u32,
 }
@@ -36,7 +36,7 @@ pub fn apart(x: usize, i: usize) -> usize
 
 // What the gauge makes of a difference of columns and a column's value.
 fn combined(g: Gauge, dx: usize, v: u64) -> u64
-    requires { ⌜ Known g × (dx < side-limit) × (v ≤ line-limit) ⌝ }
+    requires { ⌜ HasParts (g .kind) × (dx < side-limit) × (v ≤ line-limit) ⌝ }
     ensures { λ r. ⌜ r ≡ measured g .combine dx v ⌝ }
 {
     let kind = g.kind;
@@ -52,8 +52,8 @@ fn combined(g: Gauge, dx: usize, v: u64) -> u64
 
 // What a difference of rows adds in its column.
 pub fn lifted(g: Gauge, dy: usize) -> u64
-    requires { ⌜ Known g × (dy < side-limit) ⌝ }
-    ensures { λ r. ⌜ (r ≡ measured g .lift dy) × (r < side-limit * side-limit) ⌝ }
+    requires { ⌜ HasParts (g .kind) × (dy < side-limit) ⌝ }
+    ensures { λ r. ⌜ (r ≡ measured g .lift dy) × (r < lift-limit) ⌝ }
 {
     let kind = g.kind;
     if kind == 0 {
@@ -64,7 +64,7 @@ pub fn lifted(g: Gauge, dy: usize) -> u64
 
 // The height of column i at the place x.
 pub fn height(g: Gauge, values: &[u64], i: usize, x: usize) -> u64
-    requires { ⌜ Known g × Line (now values) × (i < length (now values)) × (x < length (now values)) ⌝ }
+    requires { ⌜ Gauged g (now values) × (i < length (now values)) × (x < length (now values)) ⌝ }
     ensures { λ r. ⌜ r ≡ height-at g (now (values .entry)) i x ⌝ }
 {
     combined(g, apart(x, i), values[i])
@@ -102,7 +102,7 @@ fn last_chessboard(n: usize, i: usize, u: usize, a: u64, b: u64) -> u64
 
 // The last place that column i holds, by the gauge.
 fn last(g: Gauge, n: usize, i: usize, u: usize, a: u64, b: u64) -> u64
-    requires { ⌜ Known g × Pair n i u a b × HoldsAt (measured g) i u a b 0 ⌝ }
+    requires { ⌜ HasParts (g .kind) × Pair n i u a b × HoldsAt (measured g) i u a b 0 ⌝ }
     ensures { λ r. ⌜ (r ≤ line-limit + line-limit) × Last (measured g) n i u a b r ⌝ }
 {
     let kind = g.kind;
@@ -117,7 +117,7 @@ fn last(g: Gauge, n: usize, i: usize, u: usize, a: u64, b: u64) -> u64
 
 // The place where column i, which holds the first place against u, stops holding; the line's length if it never does.
 pub fn place(g: Gauge, values: &[u64], i: usize, u: usize) -> usize
-    requires { ⌜ Known g × Line (now values) × (i < u) × (u < length (now values))
+    requires { ⌜ Gauged g (now values) × (i < u) × (u < length (now values))
         × (height-at g (now values) i 0 ≤ height-at g (now values) u 0) ⌝ }
     ensures { λ r. ⌜ Place (height-at g (now (values .entry))) (length (now (values .entry))) i u r ⌝ }
 {

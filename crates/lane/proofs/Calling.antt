@@ -1,24 +1,20 @@
--- The lane entry, put together. Where no test of a lane call holds, none of the map call holds either, so the map is
--- made. Its first W·H distance words are the words of the cells. The labels stand in the first W·H scratch words, which
+-- The lane entry, put together. What a lane call has that passed its tests, a kind 0 map asks, so the map is made. Its
+-- first W·H distance words are the words of the cells. The labels stand in the first W·H scratch words, which
 -- the map left at zero, and are zero again at the end: the scratch is as the map left it. The path's first W·H words
 -- come back with the best lane and marks. Assumes nothing.
 use mathlib.Core.Path.{_≡_, refl, _∙_, sym, ap, subst}
-use mathlib.Core.Bool.{false}
 use mathlib.Core.List.{List, _++_}
 use Prim.Native.Nat.{ℕ, _+_, _*_, _≤_, _<_}
 use native.Mathlib.Nat.{mul-le-mul-left}
 use native.Mathlib.Omega.{arith}
-use lib.Dec.{lit<}
 use lib.ListN.{length, take, drop, take-append-drop, List·getD-append}
 use lib.Seq.{length-take-le, getD-take, take-append-le, ext-getD}
 use Rattle.rules.specs.Board.{cell, Sides}
-use Rattle.rules.specs.Refusals.{answer, any, bad-sides, bad-buffers, bad-byte, no-bore, picture-rows, lane-rows}
-use Rattle.rules.specs.Accepted.{LaneAccepted}
+use Rattle.rules.specs.Accepted.{PictureAccepted, LaneAccepted}
 use Rattle.rules.specs.Tie.{MapWord}
 use Rattle.rules.specs.Calls.{buffers, PictureAfter, LaneAfter}
 use Rattle.rules.proofs.Board.{cell-in, cells-few}
 use Rattle.rules.proofs.Parts.{front-beyond}
-use Rattle.rules.proofs.Refusals.{kind-good, weights-good, or-first, lane-row-by-row}
 use Rattle.lane_flood.specs.Around.{InRows, Lists}
 use Rattle.lane_flood.specs.Labelling.{at}
 use Rattle.lane_search.specs.Course.{Laid}
@@ -43,19 +39,20 @@ as-after n list part room long same =
     (λ i h. same i (omega arith) ∙ sym (getD-take n list i 0 (omega arith))))
     ∙ take-append-drop n list
 
-module _ (w h : ℕ) (picture : List ℕ) (from to : ℕ) where
-  -- where no test of a lane call holds, none of the map call holds
-  pub map-answers : (distances sites scratch path : ℕ)
-      → answer (lane-rows w h picture from to distances sites scratch path) ≡ 0
-      → answer (picture-rows w h 0 0 0 picture distances sites scratch) ≡ 0
-  map-answers distances sites scratch path e =
-      let passed = lane-row-by-row w h picture from to distances sites scratch path .none .0 e in
-      let one : bad-sides w h ≡ false = passed 0 (lit< tt) in
-      let four : bad-buffers w h (length picture) distances sites scratch ≡ false = or-first _ _ (passed 1 (lit< tt)) in
-      let five : any bad-byte picture ≡ false = passed 2 (lit< tt) in
-      let six : no-bore picture ≡ false = passed 3 (lit< tt) in
-      rw (one, kind-good 3 0 (omega arith), weights-good 0 0 0 (λ z. absurd (omega arith)), four, five, six)
+-- a lane call that has passed its tests has what a kind 0 map asks
+pub map-accepted : {w h : ℕ} {picture : List ℕ} {from to distances sites scratch path : ℕ}
+    → LaneAccepted w h picture from to distances sites scratch path → PictureAccepted w h 0 0 0 picture distances sites scratch
+map-accepted A =
+    record {
+      sides = A .sides;
+      kind-in = omega arith;
+      weights = λ e. absurd (omega arith);
+      lent = A .lent;
+      bytes = A .bytes;
+      bored = A .bored;
+    }
 
+module _ (w h : ℕ) (picture : List ℕ) (from to : ℕ) where
   module _ {distances sites scratch distances′ sites′ scratch′ : List ℕ} (path : List ℕ)
       (A : LaneAccepted w h picture from to (length distances) (length sites) (length scratch) (length path))
       (M : PictureAfter w h 0 0 0 picture (buffers distances sites scratch) (buffers distances′ sites′ scratch′)) where

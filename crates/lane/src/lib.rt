@@ -1,17 +1,16 @@
 // The lane entry: the refusals first, then the kind 0 map, and the best lane over the map's words.
 use lane_search::Course;
 use lane_search::best_lane;
-use maps::picture_map;
-use refusals::lane::LaneAsked;
-use refusals::lane::lane_refusal;
+use maps::row_map;
+use refusals::lane_rows::LaneAsked;
+use refusals::lane_rows::lane_refusal;
 use rules::LaneAnswer;
-ghost use mathlib.Core.Path.{_≡_};
 ghost use lib.ListN.{length};
-ghost use Rattle.rules.specs.Refusals.{answer, lane-rows};
+ghost use Rattle.rules.specs.Accepted.{LaneAccepted};
 ghost use Rattle.rules.specs.Answers.{lane-number, lane-width, lane-cells};
 ghost use Rattle.rules.specs.Calls.{buffers, LaneAfter, LaneCall};
 
-// The lane of a call that no row refuses: the kind 0 map, whose own tests then pass too, and the best lane over its words.
+// The lane of a call that has passed the tests: the kind 0 map, and the best lane over its words.
 fn accepted_lane(
     a: LaneAsked,
     picture: &[u8],
@@ -20,16 +19,17 @@ fn accepted_lane(
     scratch: &mut [u32],
     path: &mut [u32],
 ) -> Course
-    requires { ⌜ answer (lane-rows (a .w) (a .h) (now picture) (a .from) (a .to) (length (now distances))
-        (length (now sites)) (length (now scratch)) (length (now path))) ≡ 0 ⌝ }
+    requires { ⌜ LaneAccepted (a .w) (a .h) (now picture) (a .from) (a .to) (length (now distances))
+        (length (now sites)) (length (now scratch)) (length (now path)) ⌝ }
     ensures { λ r. ⌜ LaneAfter (a .w) (a .h) (now (picture .entry)) (a .from) (a .to)
         (buffers (now (distances .entry)) (now (sites .entry)) (now (scratch .entry))) (now (path .entry))
         (r .width) (r .cells)
         (buffers (now (distances .exit)) (now (sites .exit)) (now (scratch .exit))) (now (path .exit)) ⌝ }
 {
-    picture_map(a.w, a.h, 0, 0, 0, picture, distances, sites, scratch);
     let w = a.w as usize;
-    let n = w * (a.h as usize);
+    let h = a.h as usize;
+    let n = w * h;
+    row_map(w, h, 0, picture, distances, sites, scratch);
     best_lane(
         w,
         a.from as usize,

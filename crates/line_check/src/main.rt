@@ -6,11 +6,11 @@ use lines::fill;
 use lines::some_length;
 use plain::wrong_places;
 use rules::MARK;
-ghost use Prim.Native.Nat.{_^_, _≤_, _<_};
+ghost use Prim.Native.Nat.{_+_, _^_, _≤_, _<_};
 ghost use mathlib.Core.Path.{_≡_};
 ghost use lib.ListN.{length};
 ghost use Rattle.rules.specs.Limits.{side-limit};
-ghost use Rattle.envelope.specs.Stretches.{Room};
+ghost use Rattle.rules.specs.Measures.{HasParts};
 ghost use Rattle.line_check.specs.Tallied.{Tallied};
 
 mod lines;
@@ -36,8 +36,8 @@ fn try_line(
     work: &mut [u32],
     winners: &mut [u32],
 ) -> u64
-    requires { ⌜ (kind < 3) × (1 ≤ length (now values)) × (length (now values) ≤ side-limit)
-        × Room (now values) (now work) × (length (now winners) ≡ length (now values)) ⌝ }
+    requires { ⌜ HasParts kind × (1 ≤ length (now values)) × (length (now values) ≤ side-limit)
+        × (length (now work) ≡ length (now values) + length (now values)) × (length (now winners) ≡ length (now values)) ⌝ }
     ensures { λ r. ⌜ r ≤ length (now (values .entry)) ⌝ }
 {
     fill(seed, values);
@@ -47,7 +47,7 @@ fn try_line(
 
 // One random line. The winners start as marks, so that a place that the engine leaves out counts as wrong.
 fn one_line(kind: u32, seed: &mut u64) -> Tally
-    requires { ⌜ kind < 3 ⌝ }
+    requires { ⌜ HasParts kind ⌝ }
     ensures { λ r. ⌜ Tallied 1 (r .places) (r .wrong) ⌝ }
 {
     let mut values = [0u64; LONGEST];
@@ -69,7 +69,7 @@ fn one_line(kind: u32, seed: &mut u64) -> Tally
 
 // As many random lines of one kind as asked.
 fn try_kind(kind: u32, lines: u64, seed: &mut u64) -> Tally
-    requires { ⌜ (kind < 3) × (lines < 2 ^ 32) ⌝ }
+    requires { ⌜ HasParts kind × (lines < 2 ^ 32) ⌝ }
     ensures { λ r. ⌜ Tallied lines (r .places) (r .wrong) ⌝ }
 {
     let mut places = 0;
@@ -96,7 +96,7 @@ fn print_tally(lines: u64, tally: Tally) {
 
 // The lines of one kind, tried and printed.
 fn run_kind(kind: u32, lines: u64, seed: &mut u64) -> Tally
-    requires { ⌜ (kind < 3) × (lines < 2 ^ 32) ⌝ }
+    requires { ⌜ HasParts kind × (lines < 2 ^ 32) ⌝ }
     ensures { λ r. ⌜ Tallied lines (r .places) (r .wrong) ⌝ }
 {
     let tally = try_kind(kind, lines, seed);

@@ -9,12 +9,11 @@ use native.Mathlib.Omega.{arith}
 use lib.ListN.{getD}
 use Rattle.rules.specs.Limits.{mark}
 use Rattle.rules.specs.Board.{cell}
-use Rattle.rules.specs.Measures.{chamfer-kind}
+use Rattle.rules.specs.Measures.{chamfer-kind, HasParts}
 use Rattle.rules.specs.Tie.{MapWord, MapSite}
 use Rattle.rules.specs.Refusals.{scratch-words}
 use Rattle.rules.specs.Accepted.{PictureAccepted}
 use Rattle.rules.specs.Calls.{buffers, Beyond, PictureAfter}
-use Rattle.rules.proofs.Measures.{lawful}
 use Rattle.rules.proofs.Columns.{picture-step}
 use Rattle.rules.proofs.Board.{cell-in}
 use Rattle.rules.proofs.Parts.{beyond-more, beyond-both}
@@ -36,23 +35,23 @@ module _ {w h kind d1 d2 : ℕ} {picture : List ℕ} {ld ls lc : ℕ} (A : Pictu
             λ y in-column e. S .words (A .bored .0) y (omega arith) (A .bored .2) in-column .empty e (A .bored .1) (A .bored .3) (A .bored .4);
       }
 
-  -- what a map of kinds 0 to 2 leaves
-  pub rows-after : {after zeros d d′ s s′ : List ℕ} → kind < chamfer-kind
+  -- what a map by rows leaves
+  pub rows-after : {after zeros d d′ s s′ : List ℕ} → HasParts kind
       → RowsMade (record { kind = kind }) w h h swept after d d′ s s′
       → ((k : ℕ) → k < scratch-words w h → getD zeros k 0 ≡ 0) → Beyond (scratch-words w h) after zeros → (e1 e2 : ℕ)
       → PictureAfter w h kind e1 e2 picture (buffers d s before) (buffers d′ s′ zeros)
-  rows-after {d = d} {d′} {s} {s′} k-in R zeroed beyond e1 e2 =
+  rows-after {d = d} {d′} {s} {s′} parts R zeroed beyond e1 e2 =
       let step : (x y : ℕ) → x < w → y < h
       → MapWord kind e1 e2 w h picture x y (getD d′ (cell w x y) 0) × MapSite kind e1 e2 w h picture x y (getD s′ (cell w x y) 0) =
       λ x y in-row in-column.
-      picture-step kind e1 e2 w h picture x y (word-of w swept y) k-in (lawful kind k-in)
+      picture-step kind e1 e2 w h picture x y (word-of w swept y) parts
       (λ i b. S .words i y (omega arith) b in-column) (R .rows x y in-row in-column) in
       let at-end : h * w ≡ w * h = mul-comm h w in
       record {
         words = λ x y in-row in-column. step x y in-row in-column .0;
         names =
             λ x y in-row in-column.
-            record { named = λ _. step x y in-row in-column .1; unnamed = λ e. absurd (omega arith) };
+            record { named = λ _. step x y in-row in-column .1; unnamed = λ e. absurd (parts .no-chamfer e) };
         zeroed = zeroed;
         distances-beyond = subst (λ n. Beyond n d d′) at-end (R .distances-beyond);
         sites-beyond = subst (λ n. Beyond n s s′) at-end (R .sites-beyond);

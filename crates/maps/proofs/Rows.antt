@@ -12,13 +12,15 @@ use lib.Seq.{drop-drop}
 use borrow.Rule.Slice.PartMut.{putMid, drop-put, same-len-mid}
 use Rattle.rules.specs.Limits.{mark}
 use Rattle.rules.specs.Board.{Sides, cell, away}
+use Rattle.rules.specs.Measures.{HasParts}
 use Rattle.rules.specs.Columns.{RowWord}
 use Rattle.rules.specs.Calls.{Beyond}
-use Rattle.rules.proofs.Parts.{put-before, put-inside, part-length}
+use Rattle.rules.proofs.Board.{row-ends}
+use Rattle.rules.proofs.Columns.{row-word-same}
+use Rattle.rules.proofs.Parts.{put-before, put-inside, part-length, beyond-both}
 use Rattle.gauge.specs.declared.Gauge.{Gauge}
-use Rattle.gauge.specs.Line.{Known, measured}
+use Rattle.gauge.specs.Line.{measured}
 use Rattle.rows.specs.Row.{Believed, RowMade}
-use Rattle.rows.proofs.RowLine.{row-same}
 use Rattle.maps.specs.Rows.{word-of, Believable, RowsMade}
 
 -- no row yet
@@ -31,10 +33,6 @@ rows-none scratch d s =
       distances-beyond = record { as-long = refl; untouched = refl };
       sites-beyond = record { as-long = refl; untouched = refl };
     }
-
--- the rows of a board have room for one another
-row-room : (w : ℕ) {h y : ℕ} → y < h → y * w + w ≤ w * h
-row-room w {h} {y} l = omega (arith, mul-le-mul-right w l)
 
 -- what is untouched beyond the row's end
 row-beyond : {at end : ℕ} (before now part : List ℕ) → at ≤ end → end ≤ length now → length part ≡ end - at
@@ -52,17 +50,16 @@ row-beyond {at} {end} before now part h l e B =
 
 module _ {g : Gauge} {w h : ℕ} {before d s : List ℕ} (sides : Sides w h) where
   -- what the next row line asks
-  pub row-believed : {y : ℕ} {after d′ s′ : List ℕ} → Known g → Believable w h before → w * h + w + w ≤ length before
-      → y < h → RowsMade g w h y before after d d′ s s′ → Believed g y (y * w) (w * h) after w
-  row-believed {y} {after} known B room l R =
+  pub row-believed : {y : ℕ} {after d′ s′ : List ℕ} → HasParts (g .kind) → Believable w h before → w * h + w + w ≤ length before
+      → y < h → RowsMade g w h y before after d d′ s s′ → Believed g (y * w) (w * h) after w
+  row-believed {y} {after} parts B room l R =
       let same : (i : ℕ) → i < w → getD after (y * w + i) 0 ≡ word-of w before y i =
-      λ i h. R .kept (y * w + i) (omega (arith, row-room w l)) in
+      λ i h. R .kept (y * w + i) (omega (arith, row-ends w refl l)) in
       record {
-        known = known;
-        row-in = omega (arith, sides .height-to);
+        parts = parts;
         from = sides .width-from;
         to = sides .width-to;
-        before-tail = row-room w l;
+        before-tail = row-ends w refl l;
         room = omega (arith, R .scratch-beyond .as-long);
         named =
             λ i h.
@@ -77,10 +74,10 @@ module _ {g : Gauge} {w h : ℕ} {before d s : List ℕ} (sides : Sides w h) whe
       (s-long : w * h ≤ length s) (drow-long : length drow ≡ w) (srow-long : length srow ≡ w)
       (R : RowsMade g w h y before after d d′ s s′) (M : RowMade g y (y * w) (w * h) w after after′ drow srow) where
     d-now : y * w + w ≤ length d′
-    d-now = omega (arith, row-room w l, R .distances-beyond .as-long)
+    d-now = omega (arith, row-ends w refl l, R .distances-beyond .as-long)
 
     s-now : y * w + w ≤ length s′
-    s-now = omega (arith, row-room w l, R .sites-beyond .as-long)
+    s-now = omega (arith, row-ends w refl l, R .sites-beyond .as-long)
 
     -- this row
     here : (x : ℕ) → x < w → RowWord w (measured g .combine) (word-of w before y)
@@ -92,8 +89,10 @@ module _ {g : Gauge} {w h : ℕ} {before d s : List ℕ} (sides : Sides w h) whe
         (λ i. measured g .lift (away y (word-of w before y i))) x a b)
         (sym (put-inside {a = y * w} (y * w + w - y * w) d′ drow (omega (arith, d-now)) (omega (arith, drow-long))))
         (sym (put-inside {a = y * w} (y * w + w - y * w) s′ srow (omega (arith, s-now)) (omega (arith, srow-long))))
-        (row-same (λ word. measured g .lift (away y word))
-        (λ i b. R .kept (y * w + i) (omega (arith, row-room w l))) (M .row x in-row))
+        (row-word-same same (λ i b n. ap (λ word. measured g .lift (away y word)) (same i b)) (M .row x in-row))
+      where
+        same : (i : ℕ) → i < w → getD after (y * w + i) 0 ≡ word-of w before y i
+        same i b = R .kept (y * w + i) (omega (arith, row-ends w refl l))
 
     -- an earlier row
     earlier : (x y′ : ℕ) → x < w → y′ < y → RowWord w (measured g .combine) (word-of w before y′)
@@ -121,11 +120,8 @@ module _ {g : Gauge} {w h : ℕ} {before d s : List ℕ} (sides : Sides w h) whe
               (getD (putMid (y * w) (y * w + w - y * w) d′ drow) (cell w x n) 0)
               (getD (putMid (y * w) (y * w + w - y * w) s′ srow) (cell w x n) 0)) (sym e) (here x in-row))
               (λ b. earlier x y′ in-row b) (eq-or-lt-of-le at-most);
-          kept = λ k h. M .kept k h ∙ R .kept k h;
-          scratch-beyond = record {
-            as-long = M .as-long ∙ R .scratch-beyond .as-long;
-            untouched = M .beyond ∙ R .scratch-beyond .untouched;
-          };
+          kept = λ k h. M .used .kept k h ∙ R .kept k h;
+          scratch-beyond = beyond-both (R .scratch-beyond) (M .used .beyond);
           distances-beyond =
               subst (λ n. Beyond n d (putMid (y * w) (y * w + w - y * w) d′ drow)) next
               (row-beyond {end = y * w + w} d d′ drow (omega arith) d-now (omega (arith, drow-long)) (R .distances-beyond));
@@ -138,11 +134,11 @@ module _ {g : Gauge} {w h : ℕ} {before d s : List ℕ} (sides : Sides w h) whe
         next = omega arith
 
   -- the same with the row's first cell by another name, as the loop has it
-  pub believed-at : {y : ℕ} {after d′ s′ : List ℕ} (at : ℕ) → at ≡ y * w → Known g → Believable w h before
+  pub believed-at : {y : ℕ} {after d′ s′ : List ℕ} (at : ℕ) → at ≡ y * w → HasParts (g .kind) → Believable w h before
       → w * h + w + w ≤ length before → y < h → RowsMade g w h y before after d d′ s s′
-      → Believed g y at (w * h) after w
-  believed-at {y} {after} at e known B room l R =
-      subst (λ k. Believed g y k (w * h) after w) (sym e) (row-believed known B room l R)
+      → Believed g at (w * h) after w
+  believed-at {y} {after} at e parts B room l R =
+      subst (λ k. Believed g k (w * h) after w) (sym e) (row-believed parts B room l R)
 
   pub rows-more-at : {y : ℕ} {after after′ d′ s′ : List ℕ} (at : ℕ) (drow srow : List ℕ) → at ≡ y * w → y < h
       → w * h ≤ length d → w * h ≤ length s → length drow ≡ w → length srow ≡ w
@@ -152,7 +148,3 @@ module _ {g : Gauge} {w h : ℕ} {before d s : List ℕ} (sides : Sides w h) whe
       subst (λ k. RowMade g y k (w * h) w after after′ drow srow
       → RowsMade g w h (y + 1) before after′ d (putMid k (k + w - k) d′ drow) s (putMid k (k + w - k) s′ srow)) (sym e)
       (rows-more drow srow l d-long s-long drow-long srow-long R)
-
--- a row begins among the cells of the board
-pub row-in-cells : (w : ℕ) {h y at : ℕ} → at ≡ y * w → y < h → at + w ≤ w * h
-row-in-cells w e l = omega (arith, row-room w l)

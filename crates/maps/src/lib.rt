@@ -4,20 +4,22 @@ use chamfer::scan_map;
 use columns::sweep;
 use gauge::Gauge;
 use lines::all_rows;
-use refusals::picture::PictureAsked;
-use refusals::picture::picture_refusal;
+use refusals::picture_rows::PictureAsked;
+use refusals::picture_rows::picture_refusal;
+use rules::CHAMFER_KIND;
 use rules::MARK;
 use set_words::set_front;
 ghost use Prim.Native.Nat.{ℕ, _<_};
 ghost use lib.ListN.{length};
-ghost use Rattle.rules.specs.Measures.{chamfer-kind};
+ghost use Rattle.rules.specs.Measures.{HasParts, chamfer-kind};
 ghost use Rattle.rules.specs.Accepted.{PictureAccepted};
 ghost use Rattle.rules.specs.Calls.{buffers, PictureAfter, PictureCall};
 
 mod lines;
 
-// The map of kinds 0 to 2: the column words, the row lines, and the scratch set to zero.
-fn row_map(
+// The map of a kind that has parts, of a picture that has passed the tests: the column words, the row lines, and the
+// scratch set to zero.
+pub fn row_map(
     w: usize,
     h: usize,
     kind: u32,
@@ -26,7 +28,7 @@ fn row_map(
     sites: &mut [u32],
     scratch: &mut [u32],
 )
-    requires { ⌜ (kind < chamfer-kind)
+    requires { ⌜ HasParts kind
         × PictureAccepted w h kind 0 0 (now picture) (length (now distances)) (length (now sites)) (length (now scratch)) ⌝ }
     ensures { λ _. ⌜ ((d1 d2 : ℕ) → PictureAfter w h kind d1 d2 (now (picture .entry))
         (buffers (now (distances .entry)) (now (sites .entry)) (now (scratch .entry)))
@@ -74,7 +76,7 @@ fn accepted_map(
 {
     let w = a.w as usize;
     let h = a.h as usize;
-    if a.kind == 3 {
+    if a.kind == CHAMFER_KIND {
         scanned_map(w, h, a.d1, a.d2, picture, distances, sites, scratch);
         return;
     }

@@ -1,6 +1,6 @@
-// The row line: what a row makes of its column words, whoever put them there. Fill turns the words into values, the engine
-// finds the winning column of each place, and write-out puts the map word and the site. The three are apart, so that
-// another fill can use the same write-out.
+// The row line: what a row makes of its column words, whoever put them there. Fill turns the words into values; the engine
+// finds the winning column of each place; then the map words and the sites are written. What follows the fill is one
+// function, so that another fill can stand before it.
 use envelope::winners_of;
 use gauge::Gauge;
 use gauge::apart;
@@ -14,13 +14,14 @@ ghost use mathlib.Core.Path.{_≡_};
 ghost use lib.ListN.{length, getD};
 ghost use Rattle.rules.specs.Limits.{side-limit};
 ghost use Rattle.rules.specs.Board.{cell};
-ghost use Rattle.gauge.specs.Line.{Known, Line, height-at};
-ghost use Rattle.rows.specs.Row.{Named, value-of, Filled, Chosen, RowWritten, Believed, RowMade};
+ghost use Rattle.rules.specs.Measures.{HasParts};
+ghost use Rattle.gauge.specs.Line.{Gauged, height-at};
+ghost use Rattle.rows.specs.Row.{Named, value-of, Filled, Winners, Heights, Chosen, Sites, Believed, LineRead, LineOut, RowMade};
 
 // What a column word stands for in row y: its difference of rows lifted, or a value above every true one for a column with
 // no feature.
 fn value(g: Gauge, y: usize, word: u32) -> u64
-    requires { ⌜ Known g × (y < side-limit) × Named side-limit word ⌝ }
+    requires { ⌜ HasParts (g .kind) × (y < side-limit) × Named side-limit word ⌝ }
     ensures { λ r. ⌜ r ≡ value-of g y word ⌝ }
 {
     if word == MARK {
@@ -31,7 +32,7 @@ fn value(g: Gauge, y: usize, word: u32) -> u64
 
 // Fill for pictures: the values of row y from its words.
 fn fill(g: Gauge, y: usize, words: &[u32], values: &mut [u64])
-    requires { ⌜ Known g × (y < side-limit) × (length (now values) ≡ length (now words))
+    requires { ⌜ HasParts (g .kind) × (y < side-limit) × (length (now values) ≡ length (now words))
         × ((i : ℕ) → i < length (now words) → Named side-limit (getD (now words) i 0)) ⌝ }
     ensures { λ _. ⌜ Filled g y (now (words .entry)) (now (values .exit)) ⌝ }
 {
@@ -44,7 +45,7 @@ fn fill(g: Gauge, y: usize, words: &[u32], values: &mut [u64])
 
 // The map word of place x, whose winner is i.
 fn map_word(g: Gauge, values: &[u64], i: usize, x: usize) -> u32
-    requires { ⌜ Known g × Line (now values) × (i < length (now values)) × (x < length (now values)) × (height-at g (now values) i x < 2 ^ 32) ⌝ }
+    requires { ⌜ Gauged g (now values) × (i < length (now values)) × (x < length (now values)) × (height-at g (now values) i x < 2 ^ 32) ⌝ }
     ensures { λ r. ⌜ r ≡ height-at g (now (values .entry)) i x ⌝ }
 {
     height(g, values, i, x) as u32
@@ -58,23 +59,56 @@ fn site_word(w: usize, i: usize, word: u32) -> u32
     (as_index(word) * w + i) as u32
 }
 
-// Write-out: the height of each place's winner, and the cell that the winner's word names. `sites` holds the winners.
-pub fn write_out(g: Gauge, words: &[u32], values: &[u64], distances: &mut [u32], sites: &mut [u32])
-    requires { ⌜ Known g × Line (now values) × Chosen g (now words) (now values) (now sites)
-        × (length (now words) ≡ length (now values)) × (length (now distances) ≡ length (now values)) × (length (now sites) ≡ length (now values)) ⌝ }
-    ensures { λ _. ⌜ RowWritten g (now (words .entry)) (now (values .entry)) (now (sites .entry)) (now (distances .exit)) (now (sites .exit)) ⌝ }
+// The map words of a row: the height of each place's winner.
+fn write_distances(g: Gauge, values: &[u64], winners: &[u32], distances: &mut [u32])
+    requires { ⌜ Gauged g (now values) × Winners g (now values) (now winners)
+        × (length (now winners) ≡ length (now values)) × (length (now distances) ≡ length (now values)) ⌝ }
+    ensures { λ _. ⌜ Heights g (now (values .entry)) (now (winners .entry)) (now (distances .exit)) ⌝ }
 {
-    let w = values.len();
     let mut x = 0;
-    while x < w {
+    while x < winners.len() {
+        distances[x] = map_word(g, values, as_index(winners[x]), x);
+        x += 1;
+    }
+}
+
+// The sites of a row, in place of its winners: the cell that each winner's word names.
+pub fn write_sites(words: &[u32], sites: &mut [u32])
+    requires { ⌜ Chosen (now words) (now sites) ⌝ }
+    ensures { λ _. ⌜ Sites (now (words .entry)) (now (sites .entry)) (now (sites .exit)) ⌝ }
+{
+    let w = words.len();
+    let mut x = 0;
+    while x < sites.len() {
         let i = as_index(sites[x]);
-        distances[x] = map_word(g, values, i, x);
         sites[x] = site_word(w, i, words[i]);
         x += 1;
     }
 }
 
-// The row line of row y. Its words stand in the scratch from `at` on, and the scratch words from `tail` on are free.
+// What a filled line comes to: the engine, the map words and the sites. The row's words stand in the scratch from `at` on,
+// and the scratch words from `tail` on are free.
+pub fn line_out(
+    g: Gauge,
+    at: usize,
+    tail: usize,
+    scratch: &mut [u32],
+    values: &[u64],
+    distances: &mut [u32],
+    sites: &mut [u32],
+)
+    requires { ⌜ LineRead g at tail (now scratch) (now values) × (length (now distances) ≡ length (now values)) × (length (now sites) ≡ length (now values)) ⌝ }
+    ensures { λ _. ⌜ LineOut g at tail (now (scratch .entry)) (now (values .entry)) (now (scratch .exit)) (now (distances .exit)) (now (sites .exit)) ⌝ }
+{
+    let w = values.len();
+    let end = at + w;
+    let rest = tail + w + w;
+    winners_of(g, values, &mut scratch[tail..rest], sites);
+    write_distances(g, values, sites, distances);
+    write_sites(&scratch[at..end], sites);
+}
+
+// The row line of row y of a picture.
 pub fn row_line(
     g: Gauge,
     y: usize,
@@ -85,13 +119,10 @@ pub fn row_line(
     distances: &mut [u32],
     sites: &mut [u32],
 )
-    requires { ⌜ Believed g y at tail (now scratch) (length (now values)) × (length (now distances) ≡ length (now values)) × (length (now sites) ≡ length (now values)) ⌝ }
+    requires { ⌜ Believed g at tail (now scratch) (length (now values)) × (y < side-limit) × (length (now distances) ≡ length (now values)) × (length (now sites) ≡ length (now values)) ⌝ }
     ensures { λ _. ⌜ RowMade g y at tail (length (now (values .entry))) (now (scratch .entry)) (now (scratch .exit)) (now (distances .exit)) (now (sites .exit)) ⌝ }
 {
-    let w = values.len();
-    let end = at + w;
-    let rest = tail + w + w;
+    let end = at + values.len();
     fill(g, y, &scratch[at..end], values);
-    winners_of(g, values, &mut scratch[tail..rest], sites);
-    write_out(g, &scratch[at..end], values, distances, sites);
+    line_out(g, at, tail, scratch, values, distances, sites);
 }

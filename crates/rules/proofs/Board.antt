@@ -5,7 +5,7 @@
 use mathlib.Core.Path.{_≡_}
 use mathlib.Core.Logic.{by-cases}
 use Prim.Native.Nat.{ℕ, zero, suc, _+_, _*_, _≤_, _<_, min}
-use native.Mathlib.Nat.{mul-comm, mul-le-mul, zero-lt-suc, mod-lt, div-add-mod', div-lt-iff-lt-mul}
+use native.Mathlib.Nat.{mul-comm, mul-le-mul, mul-le-mul-right, zero-lt-suc, mod-lt, div-add-mod', div-lt-iff-lt-mul}
 use native.Mathlib.Decide.{decLe, decLt}
 use native.Mathlib.Omega.{arith}
 use lib.Arith.{digits-lt, digits-div, digits-mod}
@@ -19,6 +19,10 @@ cell-in {w} {h} l m = rw (mul-comm w h) (digits-lt m l)
 -- a board has few cells
 pub cells-few : {w h : ℕ} → Sides w h → w * h ≤ side-limit * side-limit
 cells-few s = mul-le-mul (s .width-to) (s .height-to)
+
+-- a row of the board, known by its first cell, ends on it
+pub row-ends : (w : ℕ) {h y start : ℕ} → start ≡ y * w → y < h → start + w ≤ w * h
+row-ends w {h} is l = omega (arith, mul-le-mul-right w l, mul-comm w h)
 
 -- the column of a cell's number is the cell's column
 pub column-of : {w x : ℕ} (y : ℕ) → x < w → column w (cell w x y) ≡ x

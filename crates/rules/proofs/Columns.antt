@@ -10,16 +10,19 @@
 -- names has the least dy in it, and a feature with the same word and dy has the same rank, so it lies no higher.
 -- A picture ranks by dy itself. Costs rank by lift plus cost, with no dy: there equal words are equal ranks, because
 -- what is added to a column's value is added to the whole. Assumes nothing.
-use mathlib.Core.Path.{_≡_, refl, subst}
+use mathlib.Core.Path.{_≡_, refl, sym, _∙_, ap}
 use mathlib.Core.Logic.{_≢_, _⊎_, inl, inr, by-cases, Dec·not}
 use mathlib.Core.List.{List}
 use Prim.Native.Nat.{ℕ, zero, suc, _≤_, _<_}
 use native.Mathlib.Nat.{le-antisymm, zero-add}
 use native.Mathlib.Decide.{decLe, decLt, ℕ-discrete}
 use native.Mathlib.Omega.{arith}
-use Rattle.rules.specs.Limits.{mark}
+use borrow.Author.Count.{below-more}
+use Rattle.rules.specs.Limits.{mark, cost-kind-limit}
 use Rattle.rules.specs.Board.{cell, away, Bored, Unmarked}
-use Rattle.rules.specs.Measures.{Measure, distance, chamfer-kind, measure, Lawful, Additive}
+use Rattle.rules.specs.Measures.{Measure, distance, measure, HasParts, Additive}
+use Rattle.rules.proofs.Measures.{lawful, cost-parts, additive}
+use Rattle.rules.proofs.TieRule.{cost-as-site}
 use Rattle.rules.specs.Columns.{Nearest, ColumnWord, RowWord, cost-rank}
 use Rattle.rules.specs.Tie.{Least, Site, bore-word, cost-word, MapWord, MapSite, CostMapWord, CostMapSite}
 
@@ -32,11 +35,6 @@ nearest-unique n n′ =
     le-antisymm (n .upper _ (n′ .row-in) (n′ .feature) (le-antisymm b a))
     (n′ .upper _ (n .row-in) (n .feature) (le-antisymm a b))
 
--- what holds of the rows above h and of h holds of the rows down to h
-down-to : {h : ℕ} (P : ℕ → Type 0) → ((j : ℕ) → j < h → P j) → P h → (j : ℕ) → j < suc h → P j
-down-to {h} P above last j l =
-    by-cases (decLt j h) (above j) (λ (n : ¬ (j < h)). let e : h ≡ j = omega arith in subst P e last)
-
 -- what going down a column comes to: its nearest row, or that it has no feature
 abbrev pub Settled : ℕ → (ℕ → Type 0) → (ℕ → ℕ) → Type 0
 Settled h Feature rank = ((j : ℕ) × Nearest h Feature rank j) ⊎ ((j : ℕ) → j < h → Feature j → ⊥)
@@ -48,8 +46,9 @@ module _ {Feature : ℕ → Type 0} (rank : ℕ → ℕ) where
       record {
         row-in = omega arith;
         feature = n .feature;
-        nearest = down-to (λ j′. Feature j′ → rank j ≤ rank j′) (n .nearest) last;
-        upper = down-to (λ j′. Feature j′ → rank j′ ≡ rank j → j ≤ j′) (n .upper) (λ f e. omega arith);
+        nearest = λ j′ l. below-more (λ j′. Feature j′ → rank j ≤ rank j′) h (n .nearest) last j′ (omega arith);
+        upper = λ j′ l. below-more (λ j′. Feature j′ → rank j′ ≡ rank j → j ≤ j′) h (n .upper) (λ f e. omega arith) j′
+            (omega arith);
       }
 
   -- a feature with a lesser rank than every feature above it is the nearest, down to its own row
@@ -59,10 +58,11 @@ module _ {Feature : ℕ → Type 0} (rank : ℕ → ℕ) where
         row-in = omega arith;
         feature = f;
         nearest =
-            down-to (λ j. Feature j → rank h ≤ rank j) (λ j l g. omega (arith, above j l g)) (λ g. omega arith);
+            λ j l. below-more (λ j. Feature j → rank h ≤ rank j) h (λ j l g. omega (arith, above j l g)) (λ g. omega arith) j
+            (omega arith);
         upper =
-            down-to (λ j. Feature j → rank j ≡ rank h → h ≤ j)
-            (λ j l g e. absurd (omega (arith, above j l g))) (λ g e. omega arith);
+            λ j l. below-more (λ j. Feature j → rank j ≡ rank h → h ≤ j) h
+            (λ j l g e. absurd (omega (arith, above j l g))) (λ g e. omega arith) j (omega arith);
       }
 
   -- a column whose features are known is settled
@@ -76,7 +76,7 @@ module _ {Feature : ℕ → Type 0} (rank : ℕ → ℕ) where
           by-cases (decLe (rank j) (rank h))
           (λ (l : rank j ≤ rank h). inl (j, stays n (λ g. l)))
           (λ (m : ¬ (rank j ≤ rank h)). inl (h, takes f (λ j′ l g. omega (arith, n .nearest j′ l g))))
-      one-more (inr none) (no a) = inr (down-to (λ j. Feature j → ⊥) none a)
+      one-more (inr none) (no a) = inr (λ j l. below-more (λ j. Feature j → ⊥) h none a j (omega arith))
       one-more (inr none) (yes f) = inl (h, takes f (λ j l g. absurd (none j l g)))
 
 -- a column has one word
@@ -142,6 +142,24 @@ row-word-exists {w} combine words value x i l a =
     )
     go (inr none) = absurd (none i l a)
 
+-- what a row line makes depends on the words of its columns, and on the values of those that are not marked
+pub row-word-same : {w : ℕ} {combine : ℕ → ℕ → ℕ} {words words′ value value′ : ℕ → ℕ} {x d site : ℕ} →
+    ((i : ℕ) → i < w → words i ≡ words′ i) → ((i : ℕ) → i < w → words i ≢ mark → value i ≡ value′ i) →
+    RowWord w combine words value x d site → RowWord w combine words′ value′ x d site
+row-word-same {w} {combine} {words} {words′} {value} {value′} {x} same held r =
+    let named : (i : ℕ) → i < w → words′ i ≢ mark → words i ≢ mark = λ i l n e. n (sym (same i l) ∙ e) in
+    let at : (i : ℕ) → i < w → words i ≢ mark → combine (away x i) (value i) ≡ combine (away x i) (value′ i) =
+    λ i l n. ap (combine (away x i)) (held i l n) in
+    record {
+      i = r .i;
+      column-in = r .column-in;
+      unmarked = λ e. r .unmarked (same (r .i) (r .column-in) ∙ e);
+      word-is = r .word-is ∙ at (r .i) (r .column-in) (r .unmarked);
+      site-is = r .site-is ∙ ap (cell w (r .i)) (same (r .i) (r .column-in));
+      least = λ i l n. omega (arith, at i l (named i l n), r .least i l (named i l n));
+      least-column = λ i l n e. r .least-column i l (named i l n) (at i l (named i l n) ∙ e);
+    }
+
 -- The step from columns to rows, over the features, their words as seen from one cell of the row (in column x) and
 -- their ranks in their columns.
 module _ (w h : ℕ) (Feature : ℕ → ℕ → Type 0) (word rank : ℕ → ℕ → ℕ) (dy : ℕ → ℕ) (combine : ℕ → ℕ → ℕ)
@@ -193,21 +211,22 @@ module _ (w h : ℕ) (Feature : ℕ → ℕ → Type 0) (word rank : ℕ → ℕ
         },
       )
 
--- a kind that names a cell is its measure of two parts
-pub parts : (kind d1 d2 dx dy : ℕ) → kind < chamfer-kind →
+-- a kind that has parts is its measure
+pub parts : (kind d1 d2 dx dy : ℕ) → HasParts kind →
     distance kind d1 d2 dx dy ≡ measure kind .combine dx (measure kind .lift dy)
 parts zero d1 d2 dx dy l = refl
 parts (suc zero) d1 d2 dx dy l = refl
 parts (suc (suc zero)) d1 d2 dx dy l = refl
-parts (suc (suc (suc k))) d1 d2 dx dy l = absurd (omega arith)
+parts (suc (suc (suc k))) d1 d2 dx dy l = absurd (omega (arith, l .no-chamfer))
 
 -- The step for a picture: the rows of a column are ranked by dy.
 pub picture-step : (kind d1 d2 w h : ℕ) (picture : List ℕ) (x y : ℕ) (words : ℕ → ℕ) {d site : ℕ} →
-    kind < chamfer-kind → Lawful (measure kind) →
+    HasParts kind →
     ((i : ℕ) → i < w → ColumnWord h (Bored w picture i) (away y) (words i)) →
     RowWord w (measure kind .combine) words (λ i. measure kind .lift (away y (words i))) x d site →
     MapWord kind d1 d2 w h picture x y d × MapSite kind d1 d2 w h picture x y site
-picture-step kind d1 d2 w h picture x y words l law columns r =
+picture-step kind d1 d2 w h picture x y words p columns r =
+    let law = lawful kind p in
     let s = row-step w h (Bored w picture) (bore-word kind d1 d2 x y) (λ i. away y) (away y) (measure kind .combine)
     words (λ i. measure kind .lift (away y (words i))) x columns (λ i k a. simp parts)
     (λ i j j′ k. simp parts (law .keeps _ _ _ (law .rises _ _ k))) (λ i j j′ k. k) (λ i j j′ e e′. e′) r in
@@ -219,11 +238,14 @@ same-value a dx v v′ e = omega (arith, simp zero-add at (a .adds dx 0 v), simp
 
 -- The step for costs: the rows of a column are ranked by lift plus cost.
 pub cost-step : (kind w h : ℕ) (costs : List ℕ) (x y : ℕ) (words : ℕ → ℕ) {d site : ℕ} →
-    kind < chamfer-kind → Lawful (measure kind) → Additive (measure kind) →
+    kind ≤ cost-kind-limit →
     ((i : ℕ) → i < w → ColumnWord h (Unmarked w costs i) (cost-rank kind w costs y i) (words i)) →
     RowWord w (measure kind .combine) words (λ i. cost-rank kind w costs y i (words i)) x d site →
     CostMapWord kind w h costs x y d × CostMapSite kind w h costs x y site
-cost-step kind w h costs x y words l law a columns r =
+cost-step kind w h costs x y words l columns r =
+    let p = cost-parts l in
+    let law = lawful kind p in
+    let a = additive kind l in
     let s = row-step w h (Unmarked w costs) (cost-word kind w costs x y) (cost-rank kind w costs y) (λ j. 0)
     (measure kind .combine) words (λ i. cost-rank kind w costs y i (words i)) x columns
     (λ i k n. simp (parts, ← a .adds)) (λ i j j′ k. simp (parts, ← a .adds) (law .keeps _ _ _ k))
@@ -233,13 +255,6 @@ cost-step kind w h costs x y words l law a columns r =
         i = r .i;
         j = words (r .i);
         site-is = r .site-is;
-        rule = record {
-          column-in = s .1 .column-in;
-          row-in = s .1 .row-in;
-          feature = s .1 .feature;
-          least = s .1 .least;
-          least-column = s .1 .least-column;
-          least-row = λ j k f e. s .1 .least-row j k f e refl;
-        };
+        rule = cost-as-site .1 (s .1);
       },
     )

@@ -158,10 +158,6 @@ unfolding Lane
 lane-first w h from to [] l = absurd l
 lane-first w h from to (p ∷ ps) (e, l, on) = (ps, rw e, rw e at l, rw e at on)
 
--- a lane has a cell
-pub lane-nonempty : (w h from to : ℕ) (cells : List ℕ) → Lane w h from to cells → 0 < length cells
-lane-nonempty w h from to cells l = rw (lane-first w h from to cells l .1) (omega arith)
-
 -- something holds of every cell of a list
 abbrev pub All : (ℕ → Type 0) → List ℕ → Type 0
 All P [] = Unit {0}

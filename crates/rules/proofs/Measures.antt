@@ -14,7 +14,8 @@ use native.Mathlib.Decide.{decLe}
 use native.Mathlib.Omega.{arith}
 use Rattle.rules.specs.Board.{away}
 use Rattle.rules.proofs.Board.{away-min, away-square}
-use Rattle.rules.specs.Measures.{measure, HoldsAt, Lawful, Additive}
+use Rattle.rules.specs.Limits.{cost-kind-limit}
+use Rattle.rules.specs.Measures.{measure, HasParts, HoldsAt, Lawful, Additive}
 
 -- of two columns d apart, the products that the squares leave are no larger at x′
 crossed : (d i u x x′ : ℕ) → d + i ≡ u → x′ ≤ x → x′ * u + x * i ≤ x′ * i + x * u
@@ -44,14 +45,18 @@ holds-on (suc (suc k)) i u a b x x′ l h t =
     (λ n. omega (arith, nearer i u x x′ l h n))
     (λ f. omega (arith, bounded i u x x′ l h))
 
--- kinds 0, 1 and 2 are lawful measures
-pub lawful : (kind : ℕ) → kind < 3 → Lawful (measure kind)
+-- the kinds that have parts are lawful measures
+pub lawful : (kind : ℕ) → HasParts kind → Lawful (measure kind)
 lawful zero _ = record { rises = λ dy dy′ h. mul-le-mul h h; keeps = omega arith; stands = omega arith; stretch = holds-on 0 }
 lawful (suc zero) _ = record { rises = omega arith; keeps = omega arith; stands = omega arith; stretch = holds-on 1 }
 lawful (suc (suc k)) _ = record { rises = omega arith; keeps = omega arith; stands = omega arith; stretch = holds-on 2 }
 
--- in kinds 0 and 1 what is added to a column's value is added to the whole
-pub additive : (kind : ℕ) → kind < 2 → Additive (measure kind)
+-- the kinds of costs have parts
+pub cost-parts : {kind : ℕ} → kind ≤ cost-kind-limit → HasParts kind
+cost-parts l = record { kind-in = omega arith; no-chamfer = omega arith }
+
+-- in them what is added to a column's value is added to the whole
+pub additive : (kind : ℕ) → kind ≤ cost-kind-limit → Additive (measure kind)
 additive zero _ = omega arith
 additive (suc zero) _ = omega arith
 additive (suc (suc k)) h = omega arith
@@ -59,7 +64,7 @@ additive (suc (suc k)) h = omega arith
 -- "With a bore present, W + H may stand for an empty column's G": wherever the empty column is, it combines to more than
 -- a bore does, which is less than W columns and less than H rows away
 pub stand-in : (kind w h dx dx′ dy : ℕ)
-    → kind < 3
+    → HasParts kind
     → dx′ < w
     → dy < h
     → measure kind .combine dx′ (measure kind .lift dy) < measure kind .combine dx (measure kind .lift (w + h))

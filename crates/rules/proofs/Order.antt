@@ -13,6 +13,7 @@ use native.Mathlib.Decide.{decLt}
 use native.Mathlib.Omega.{arith}
 use lib.ListN.{length}
 use lib.Dec.{T, ltb, eqb, eqb→eq}
+use borrow.Author.Count.{below-more}
 use borrow.Author.Tests.{lt-ltb, le-ltb, eq-eqb}
 use mir.Facts.{and-yes}
 use Rattle.rules.specs.Order.{Earlier}
@@ -81,10 +82,6 @@ passes? false = no (λ t. t)
 pub earlier? : (xs ys : List ℕ) → Dec (Earlier xs ys)
 earlier? xs ys = Dec·of-iff (means-comes-before xs ys, comes-before-means xs ys) (passes? (comes-before xs ys))
 
--- what holds of all numbers below n, and of n, holds of all below n + 1
-pub one-more : {P : ℕ → Type 0} (n : ℕ) → ((k : ℕ) → k < n → P k) → P n → (k : ℕ) → k < suc n → P k
-one-more n below last k l = by-cases (decLt k n) (below k) λ m. let e : n ≡ k = omega arith in rw e at last
-
 -- the test of all numbers below n
 abbrev pub every : ℕ → (ℕ → Bool) → Bool
 every zero p = true
@@ -94,4 +91,5 @@ every (suc n) p = p n && every n p
 pub every-means : (n : ℕ) (p : ℕ → Bool) → T (every n p) → (k : ℕ) → k < n → T (p k)
 every-means zero p t k l = absurd (omega arith)
 every-means (suc n) p t k l =
-    let (last, below) = and-yes (p n) (every n p) t in one-more n (every-means n p below) last k l
+    let (last, below) = and-yes (p n) (every n p) t in
+    below-more (λ k. T (p k)) n (every-means n p below) last k (omega arith)

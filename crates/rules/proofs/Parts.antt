@@ -29,14 +29,6 @@ put-inside {a} k s ys {i} l h =
     ap (λ n. getD (putMid a k s ys) (n + i) 0) (sym (length-take-le a s l))
     ∙ getD-append-add (take a s) (ys ++ postOf a k s) i 0 ∙ List·getD-append ys (postOf a k s) 0 i h
 
--- what stands after the part stays
-pub put-after : {a e : ℕ} (s ys : List ℕ) {j : ℕ} → a ≤ e → e ≤ length s → length ys ≡ e - a → e ≤ j
-    → getD (putMid a (e - a) s ys) j 0 ≡ getD s j 0
-put-after {a} {e} s ys {j} h l n below =
-    let at : e + (j - e) ≡ j = omega arith in
-    ap (λ k. getD (putMid a (e - a) s ys) k 0) (sym at) ∙ sym (getD-drop e (putMid a (e - a) s ys) (j - e) 0)
-    ∙ ap (λ t. getD t (j - e) 0) (drop-put a e s ys h l n) ∙ getD-drop e s (j - e) 0 ∙ ap (λ k. getD s k 0) at
-
 -- a list whose first n words have come back is as it was beyond them
 pub front-beyond : {n : ℕ} (l front : List ℕ) → n ≤ length l → length front ≡ n → Beyond n l (front ++ drop n l)
 front-beyond {n} l front h e =

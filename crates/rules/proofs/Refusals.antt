@@ -22,7 +22,7 @@ use lib.ListN.{length, getD, drop, List·getD-eq-default}
 use borrow.Author.Tests.{ltb-false, leb-true, leb-false, eqb-true, eqb-false, not-true, not-false}
 use borrow.Author.Tests.{le-ltb, le-leb, lt-leb, eq-eqb, ne-eqb}
 use Rattle.rules.specs.declared.Setting.{Setting}
-use Rattle.rules.specs.Limits.{mark, cost-limit, file-limit, bench-side}
+use Rattle.rules.specs.Limits.{kind-limit, cost-kind-limit, mark, cost-limit, file-limit, bench-side}
 use Rattle.rules.specs.Board.{Sides, cell, Bored, Unmarked}
 use Rattle.rules.specs.Measures.{chamfer-kind, Weights}
 use Rattle.rules.specs.BenchFile.{bored-by}
@@ -404,7 +404,7 @@ module _ (w h kind d1 d2 : ℕ) (picture : List ℕ) (distances sites scratch : 
       let lent = buffers-passes w h (length picture) distances sites scratch (passed 3 (lit< tt)) in
       record {
         sides = sides;
-        kind-in = kind-passes 3 kind (passed 1 (lit< tt));
+        kind-in = kind-passes kind-limit kind (passed 1 (lit< tt));
         weights = weights-passes kind d1 d2 (passed 2 (lit< tt));
         lent = lent;
         bytes = bytes-passes picture (passed 4 (lit< tt));
@@ -429,7 +429,7 @@ module _ (w h kind : ℕ) (costs : List ℕ) (distances sites scratch : ℕ) whe
       let lent = buffers-passes w h (length costs) distances sites scratch (passed 2 (lit< tt)) in
       record {
         sides = sides;
-        kind-in = kind-passes 1 kind (passed 1 (lit< tt));
+        kind-in = kind-passes cost-kind-limit kind (passed 1 (lit< tt));
         lent = lent;
         costs-in = costs-passes costs (passed 3 (lit< tt));
         unmarked = unmarked-somewhere w h costs (sides .width-from) (lent .picture-is) (passed 4 (lit< tt));

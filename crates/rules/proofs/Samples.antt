@@ -19,7 +19,7 @@ use lib.Ieee.Fits.{and-l, and-r}
 use mir.Facts.{T-not, and-yes, and-no, ltb-yes, ltb-no, eqb-yes, eqb-no, yes-eqb, no-eqb}
 use Rattle.rules.specs.Limits.{mark}
 use Rattle.rules.specs.Board.{cell, column, row, away, Bored, cost-at, Unmarked}
-use Rattle.rules.specs.Tie.{Least, First, picture-keys, cost-keys, bore-word, cost-word}
+use Rattle.rules.specs.Tie.{Least, First, site-keys, bore-word, cost-word}
 use Rattle.rules.specs.Tie.{MapWord, MapSite, CostMapWord, CostMapSite}
 use Rattle.rules.specs.Changeover.{Changeover, numerator, divisor, floor}
 use Rattle.rules.specs.Knob.{clear-byte}
@@ -28,7 +28,7 @@ use Rattle.rules.specs.Samples.{Sample, picture-cell, cost-distances, co
 use Rattle.rules.specs.Samples.{LaneHolds, SampleHolds, starred, Shown}
 use Rattle.rules.proofs.Board.{cell-of}
 use Rattle.rules.proofs.Order.{comes-before, comes-before-means, every, every-means}
-use Rattle.rules.proofs.TieRule.{first-is-site, first-is-cost-site}
+use Rattle.rules.proofs.TieRule.{first-is-site, cost-as-site}
 use Rattle.rules.proofs.Changeover.{changeover-floor, ≤ℤ-antisymm}
 use Rattle.rules.proofs.Knob.{some-means}
 use Rattle.rules.proofs.LaneTest.{lane-test, lane-test-sound}
@@ -125,7 +125,7 @@ module _ (w h kind : ℕ) (picture : List ℕ) (x y : ℕ) where
 
   -- the cell of that number is the site of the picture at (x, y)
   abbrev map-site : ℕ → Bool
-  map-site c = first w h (bored w picture) (picture-keys (bore-word kind 0 0 x y) (away y)) (column w c) (row w c)
+  map-site c = first w h (bored w picture) (site-keys (bore-word kind 0 0 x y) (away y)) (column w c) (row w c)
 
   -- where that test passes, it is
   map-site-means : (c : ℕ) → T (map-site c) → MapSite kind 0 0 w h picture x y c
@@ -156,7 +156,7 @@ module _ (w h kind : ℕ) (costs : List ℕ) (x y : ℕ) where
 
   -- the cell of that number is the site of the costs at (x, y)
   abbrev cost-map-site : ℕ → Bool
-  cost-map-site c = first w h (unmarked w costs) (cost-keys (cost-word kind w costs x y)) (column w c) (row w c)
+  cost-map-site c = first w h (unmarked w costs) (site-keys (cost-word kind w costs x y) (λ _. 0)) (column w c) (row w c)
 
   -- where that test passes, it is
   cost-map-site-means : (c : ℕ) → T (cost-map-site c) → CostMapSite kind w h costs x y c
@@ -165,7 +165,8 @@ module _ (w h kind : ℕ) (costs : List ℕ) (x y : ℕ) where
     j = row w c;
     site-is = sym (cell-of w c);
     rule =
-        first-is-cost-site (first-means w h (unmarked w costs) (unmarked-tests w costs) _ (column w c) (row w c) t);
+        cost-as-site .1
+        (first-is-site (first-means w h (unmarked w costs) (unmarked-tests w costs) _ (column w c) (row w c) t));
   }
 
 -- i is to the left of u, and p is the floor

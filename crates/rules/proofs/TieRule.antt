@@ -1,17 +1,18 @@
 -- The map word and the tie rule: each names one thing, and names it wherever there is a feature. The map word is one
 -- number: each of two least words is the word of a feature, so neither is above the other. The tie rule is an order of
--- the cells by their keys, which are word, column, dy and row, and for costs word, column and row: the cell that the
--- rule takes is the feature that no feature comes before. The keys of two cells differ, for they hold column and row,
+-- the cells by their keys, which are word, column, dy and row; the rule for costs is the same with 0 for every dy. The
+-- cell that the rule takes is the feature that no feature comes before. The keys of two cells differ, for they hold column and row,
 -- so one of two features comes before the other, and the rule takes at most one cell. It takes one wherever there is a
 -- feature: go through the cells in the order of their numbers with a feature in hand, and change it for each feature
 -- that comes before it; none comes before the one in hand at the end. That cell attains the least word, so there is a
 -- map word too. Assumes nothing.
 use mathlib.Core.Path.{_≡_, refl}
-use mathlib.Core.Logic.{inl, inr, ⊎-elim, by-cases, Dec·and, Dec·not}
+use mathlib.Core.Logic.{_↔_, inl, inr, ⊎-elim, by-cases, Dec·and, Dec·not}
 use mathlib.Core.List.{List, [], _∷_}
 use Prim.Native.Nat.{ℕ, zero, suc, _*_, _≤_, _<_}
 use native.Mathlib.Decide.{decLt, ℕ-discrete}
 use native.Mathlib.Omega.{arith}
+use borrow.Author.Count.{below-more}
 use lib.ListN.{length, getD}
 use Rattle.rules.specs.Limits.{mark}
 use Rattle.rules.specs.Board.{cell, column, row, away, Bored, cost-at, Unmarked}
@@ -22,14 +23,13 @@ use Rattle.rules.specs.Tie.{
   Site,
   CostSite,
   First,
-  picture-keys,
-  cost-keys,
+  site-keys,
   bore-word,
   cost-word,
   MapSite,
   CostMapSite,
 }
-use Rattle.rules.proofs.Order.{earlier-irrefl, earlier-trans, earlier-total, earlier?, one-more}
+use Rattle.rules.proofs.Order.{earlier-irrefl, earlier-trans, earlier-total, earlier?}
 
 -- keys by which cells can be ordered: those of all cells have one length, and no two cells have the same
 pub record Keys (keys : ℕ → ℕ → List ℕ) : Type 0 where
@@ -37,17 +37,9 @@ pub record Keys (keys : ℕ → ℕ → List ℕ) : Type 0 where
   pub same-column : (i j i′ j′ : ℕ) → keys i j ≡ keys i′ j′ → i ≡ i′
   pub same-row : (i j i′ j′ : ℕ) → keys i j ≡ keys i′ j′ → j ≡ j′
 
--- the keys of pictures are such keys
-pub picture-keys-tell : (word : ℕ → ℕ → ℕ) (dy : ℕ → ℕ) → Keys (picture-keys word dy)
-picture-keys-tell word dy = record {
-  same-length = λ i j i′ j′. refl;
-  same-column = λ i j i′ j′ e. cc;
-  same-row = λ i j i′ j′ e. cc;
-}
-
--- and so are those of costs
-pub cost-keys-tell : (word : ℕ → ℕ → ℕ) → Keys (cost-keys word)
-cost-keys-tell word = record {
+-- the keys of the tie rule are such keys
+pub keys-tell : (word : ℕ → ℕ → ℕ) (dy : ℕ → ℕ) → Keys (site-keys word dy)
+keys-tell word dy = record {
   same-length = λ i j i′ j′. refl;
   same-column = λ i j i′ j′ e. cc;
   same-row = λ i j i′ j′ e. cc;
@@ -76,37 +68,27 @@ module _ {w h : ℕ} {Feature : ℕ → ℕ → Type 0} where
       (λ e. absurd (a .none-before i′ j′ (b .column-in) (b .row-in) (b .feature) e)))
       (earlier-total (keys i j) (keys i′ j′) (k .same-length i j i′ j′))
 
-  -- the shared part of the two rules: a feature of the least word, in the least column that has it, is first, if no
-  -- other of that word in its column comes before it by the rest of the keys
-  column-first : (word : ℕ → ℕ → ℕ) (rest : ℕ → List ℕ) (i j : ℕ) → i < w → j < h → Feature i j
-      → ((i′ j′ : ℕ) → i′ < w → j′ < h → Feature i′ j′ → word i j ≤ word i′ j′)
-      → ((i′ j′ : ℕ) → i′ < w → j′ < h → Feature i′ j′ → word i′ j′ ≡ word i j → i ≤ i′)
-      → ((j′ : ℕ) → j′ < h → Feature i j′ → word i j′ ≡ word i j → Earlier (rest j′) (rest j) → ⊥)
-      → First w h Feature (λ i j. word i j ∷ i ∷ rest j) i j
-  column-first word rest i j l m f least least-column none = record {
-    column-in = l;
-    row-in = m;
-    feature = f;
+  -- the cell that the tie rule takes is the first feature
+  pub site-is-first : {word : ℕ → ℕ → ℕ} {dy : ℕ → ℕ} {i j : ℕ}
+      → Site w h Feature word dy i j → First w h Feature (site-keys word dy) i j
+  site-is-first {word} {dy} {i} {j} s = record {
+    column-in = s .column-in;
+    row-in = s .row-in;
+    feature = s .feature;
     none-before = go;
   }
     where
       go : (i′ j′ : ℕ) → i′ < w → j′ < h → Feature i′ j′
-          → Earlier (word i′ j′ ∷ i′ ∷ rest j′) (word i j ∷ i ∷ rest j) → ⊥
-      go i′ j′ l m f (inl t) = omega (arith, least i′ j′ l m f)
-      go i′ j′ l m f (inr (e, inl t)) = omega (arith, least-column i′ j′ l m f e)
-      go i′ j′ l m f (inr (e, inr (q, t))) = none j′ m (rw q at f) (rw q at e) t
-
-  -- the cell that the tie rule takes is the first feature
-  pub site-is-first : {word : ℕ → ℕ → ℕ} {dy : ℕ → ℕ} {i j : ℕ}
-      → Site w h Feature word dy i j → First w h Feature (picture-keys word dy) i j
-  site-is-first {word} {dy} {i} {j} s =
-      column-first word (λ j. dy j ∷ j ∷ []) i j (s .column-in) (s .row-in) (s .feature) (s .least) (s .least-column)
-      λ j′ m f e. ⊎-elim (λ t. omega (arith, s .least-dy j′ m f e))
-      (λ q. ⊎-elim (λ t. omega (arith, s .least-row j′ m f e (q .0))) (λ t. t .1) (q .1))
+          → Earlier (site-keys word dy i′ j′) (site-keys word dy i j) → ⊥
+      go i′ j′ l m f (inl t) = omega (arith, s .least i′ j′ l m f)
+      go i′ j′ l m f (inr (e, inl t)) = omega (arith, s .least-column i′ j′ l m f e)
+      go i′ j′ l m f (inr (e, inr (q, inl t))) = omega (arith, s .least-dy j′ m (rw q at f) (rw q at e))
+      go i′ j′ l m f (inr (e, inr (q, inr (p, inl t)))) = omega (arith, s .least-row j′ m (rw q at f) (rw q at e) p)
+      go i′ j′ l m f (inr (e, inr (q, inr (p, inr t)))) = t .1
 
   -- the first feature is the cell that the tie rule takes
   pub first-is-site : {word : ℕ → ℕ → ℕ} {dy : ℕ → ℕ} {i j : ℕ}
-      → First w h Feature (picture-keys word dy) i j → Site w h Feature word dy i j
+      → First w h Feature (site-keys word dy) i j → Site w h Feature word dy i j
   first-is-site {word} {dy} {i} {j} s = record {
     column-in = s .column-in;
     row-in = s .row-in;
@@ -118,73 +100,67 @@ module _ {w h : ℕ} {Feature : ℕ → ℕ → Type 0} where
         no-less (λ t. s .none-before i j′ (s .column-in) m f (inr (e, inr (refl, inr (q, inl t)))));
   }
 
-  -- the cell that the rule for costs takes is the first feature
-  pub cost-site-is-first : {word : ℕ → ℕ → ℕ} {i j : ℕ}
-      → CostSite w h Feature word i j → First w h Feature (cost-keys word) i j
-  cost-site-is-first {word} {i} {j} s =
-      column-first word (λ j. j ∷ []) i j (s .column-in) (s .row-in) (s .feature) (s .least) (s .least-column)
-      λ j′ m f e. ⊎-elim (λ t. omega (arith, s .least-row j′ m f e)) (λ t. t .1)
-
-  -- the first feature is the cell that the rule for costs takes
-  pub first-is-cost-site : {word : ℕ → ℕ → ℕ} {i j : ℕ}
-      → First w h Feature (cost-keys word) i j → CostSite w h Feature word i j
-  first-is-cost-site {word} {i} {j} s = record {
-    column-in = s .column-in;
-    row-in = s .row-in;
-    feature = s .feature;
-    least = λ i′ j′ l m f. no-less (λ t. s .none-before i′ j′ l m f (inl t));
-    least-column = λ i′ j′ l m f e. no-less (λ t. s .none-before i′ j′ l m f (inr (e, inl t)));
-    least-row = λ j′ m f e. no-less (λ t. s .none-before i j′ (s .column-in) m f (inr (e, inr (refl, inl t))));
-  }
-
   -- the tie rule takes at most one cell
   pub site-unique : {word : ℕ → ℕ → ℕ} {dy : ℕ → ℕ} {i j i′ j′ : ℕ}
       → Site w h Feature word dy i j → Site w h Feature word dy i′ j′ → (i ≡ i′) × (j ≡ j′)
-  site-unique {word} {dy} s t = first-unique (picture-keys-tell word dy) (site-is-first s) (site-is-first t)
+  site-unique {word} {dy} s t = first-unique (keys-tell word dy) (site-is-first s) (site-is-first t)
 
-  -- the rule for costs takes at most one cell
-  pub cost-site-unique : {word : ℕ → ℕ → ℕ} {i j i′ j′ : ℕ}
-      → CostSite w h Feature word i j → CostSite w h Feature word i′ j′ → (i ≡ i′) × (j ≡ j′)
-  cost-site-unique {word} s t = first-unique (cost-keys-tell word) (cost-site-is-first s) (cost-site-is-first t)
+  -- the rule for costs is the tie rule with no dy to go by
+  pub cost-as-site : {word : ℕ → ℕ → ℕ} {i j : ℕ}
+      → CostSite w h Feature word i j ↔ Site w h Feature word (λ _. 0) i j
+  cost-as-site = (
+    λ s. record {
+      column-in = s .column-in;
+      row-in = s .row-in;
+      feature = s .feature;
+      least = s .least;
+      least-column = s .least-column;
+      least-dy = λ j′ m f e. omega arith;
+      least-row = λ j′ m f e q. s .least-row j′ m f e;
+    },
+    λ s. record {
+      column-in = s .column-in;
+      row-in = s .row-in;
+      feature = s .feature;
+      least = s .least;
+      least-column = s .least-column;
+      least-row = λ j′ m f e. s .least-row j′ m f e refl;
+    },
+  )
 
-  -- where keys begin with the word, the first feature attains the least word
-  least-of-first : {word : ℕ → ℕ → ℕ} (rest : ℕ → ℕ → List ℕ) {i j : ℕ}
-      → First w h Feature (λ i j. word i j ∷ rest i j) i j → Least w h Feature word (word i j)
-  least-of-first rest {i} {j} s = record {
+  -- the cell that the tie rule takes attains the least word
+  pub least-of-site : {word : ℕ → ℕ → ℕ} {dy : ℕ → ℕ} {i j : ℕ}
+      → Site w h Feature word dy i j → Least w h Feature word (word i j)
+  least-of-site {i = i} {j} s = record {
     i = i;
     j = j;
     column-in = s .column-in;
     row-in = s .row-in;
     feature = s .feature;
     attained = refl;
-    least = λ i′ j′ l m f. no-less (λ t. s .none-before i′ j′ l m f (inl t));
+    least = s .least;
   }
-
-  -- the cell that the tie rule takes attains the least word
-  pub least-of-site : {word : ℕ → ℕ → ℕ} {dy : ℕ → ℕ} {i j : ℕ}
-      → Site w h Feature word dy i j → Least w h Feature word (word i j)
-  least-of-site {dy = dy} s = least-of-first (λ i j. i ∷ dy j ∷ j ∷ []) (site-is-first s)
-
-  -- the cell that the rule for costs takes attains the least word
-  pub least-of-cost-site : {word : ℕ → ℕ → ℕ} {i j : ℕ}
-      → CostSite w h Feature word i j → Least w h Feature word (word i j)
-  least-of-cost-site s = least-of-first (λ i j. i ∷ j ∷ []) (cost-site-is-first s)
 
 -- going through the numbers below n with one that has P in hand: one that has P, and none below n that has P comes
 -- before it
 scan : {P : ℕ → Type 0} → ((k : ℕ) → Dec (P k)) → (keys : ℕ → List ℕ) (k₀ : ℕ) → P k₀ → (n : ℕ)
     → (k : ℕ) × P k × ((k′ : ℕ) → k′ < n → P k′ → Earlier (keys k′) (keys k) → ⊥)
 scan P? keys k₀ p₀ zero = (k₀, p₀, λ k′ l. absurd (omega arith))
-scan P? keys k₀ p₀ (suc n) =
+scan {P} P? keys k₀ p₀ (suc n) =
     let (k, p, none) = scan P? keys k₀ p₀ n in
     by-cases (Dec·and (P? n) (earlier? (keys n) (keys k)))
     (λ t. (
       n,
       t .0,
-      one-more n (λ k′ l q e. none k′ l q (earlier-trans (keys k′) (keys n) (keys k) e (t .1)))
-          (λ q. earlier-irrefl (keys n)),
+      λ k′ l. below-more (λ k′. P k′ → Earlier (keys k′) (keys n) → ⊥) n
+          (λ k′ l q e. none k′ l q (earlier-trans (keys k′) (keys n) (keys k) e (t .1))) (λ q. earlier-irrefl (keys n)) k′
+          (omega arith),
     ))
-    (λ t. (k, p, one-more n none (λ q e. t (q, e))))
+    (λ t. (
+      k,
+      p,
+      λ k′ l. below-more (λ k′. P k′ → Earlier (keys k′) (keys k) → ⊥) n none (λ q e. t (q, e)) k′ (omega arith),
+    ))
 
 module _ {w h : ℕ} {Feature : ℕ → ℕ → Type 0} (feature? : (i j : ℕ) → Dec (Feature i j))
     (i₀ j₀ : ℕ) (l : i₀ < w) (m : j₀ < h) (f : Feature i₀ j₀) where
@@ -215,15 +191,11 @@ module _ {w h : ℕ} {Feature : ℕ → ℕ → Type 0} (feature? : (i j : ℕ) 
 
   -- where there is a feature, the tie rule takes a cell
   pub site-exists : (word : ℕ → ℕ → ℕ) (dy : ℕ → ℕ) → (i : ℕ) × (j : ℕ) × Site w h Feature word dy i j
-  site-exists word dy = let (i, j, s) = first-exists (picture-keys word dy) in (i, j, first-is-site s)
-
-  -- where there is a feature, the rule for costs takes a cell
-  pub cost-site-exists : (word : ℕ → ℕ → ℕ) → (i : ℕ) × (j : ℕ) × CostSite w h Feature word i j
-  cost-site-exists word = let (i, j, s) = first-exists (cost-keys word) in (i, j, first-is-cost-site s)
+  site-exists word dy = let (i, j, s) = first-exists (site-keys word dy) in (i, j, first-is-site s)
 
   -- where there is a feature, there is a least word
   pub least-exists : (word : ℕ → ℕ → ℕ) → (d : ℕ) × Least w h Feature word d
-  least-exists word = let (i, j, s) = cost-site-exists word in (word i j, least-of-cost-site s)
+  least-exists word = let (i, j, s) = site-exists word (λ _. 0) in (word i j, least-of-site s)
 
 -- of each cell it is decided whether it is bored
 pub bored? : (w : ℕ) (picture : List ℕ) (i j : ℕ) → Dec (Bored w picture i j)
@@ -241,7 +213,7 @@ map-site-unique a b = let (p, q) = site-unique (a .rule) (b .rule) in cc
 -- a cost picture has one site word at each cell
 pub cost-map-site-unique : {kind w h : ℕ} {costs : List ℕ} {x y s s′ : ℕ}
     → CostMapSite kind w h costs x y s → CostMapSite kind w h costs x y s′ → s ≡ s′
-cost-map-site-unique a b = let (p, q) = cost-site-unique (a .rule) (b .rule) in cc
+cost-map-site-unique a b = let (p, q) = site-unique (cost-as-site .0 (a .rule)) (cost-as-site .0 (b .rule)) in cc
 
 -- a picture with a bored cell has a site word at each cell
 pub map-site-exists : (kind d1 d2 w h : ℕ) (picture : List ℕ) (x y i₀ j₀ : ℕ)
@@ -254,5 +226,5 @@ map-site-exists kind d1 d2 w h picture x y i₀ j₀ l m f =
 pub cost-map-site-exists : (kind w h : ℕ) (costs : List ℕ) (x y i₀ j₀ : ℕ)
     → i₀ < w → j₀ < h → Unmarked w costs i₀ j₀ → (s : ℕ) × CostMapSite kind w h costs x y s
 cost-map-site-exists kind w h costs x y i₀ j₀ l m f =
-    let (i, j, s) = cost-site-exists (unmarked? w costs) i₀ j₀ l m f (cost-word kind w costs x y) in
-    (cell w i j, record { i = i; j = j; site-is = refl; rule = s })
+    let (i, j, s) = site-exists (unmarked? w costs) i₀ j₀ l m f (cost-word kind w costs x y) (λ _. 0) in
+    (cell w i j, record { i = i; j = j; site-is = refl; rule = cost-as-site .1 s })

@@ -7,7 +7,7 @@ use mathlib.Core.List.{List}
 use Prim.Native.Nat.{ℕ, _*_, _%_, _≤_, _<_}
 use lib.ListN.{length, getD}
 use Rattle.rules.specs.declared.Setting.{Setting}
-use Rattle.rules.specs.Limits.{mark, cost-limit, column-limit, value-limit, clear-limit, file-limit, bench-side}
+use Rattle.rules.specs.Limits.{mark, kind-limit, cost-kind-limit, cost-limit, column-limit, value-limit, clear-limit, file-limit, bench-side}
 use Rattle.rules.specs.Board.{Sides, Bored, Unmarked}
 use Rattle.rules.specs.Measures.{Weights, chamfer-kind}
 use Rattle.rules.specs.BenchFile.{bored-by, off-board}
@@ -48,7 +48,7 @@ Somewhere w h Has = (x : ℕ) × (y : ℕ) × (x < w) × (y < h) × Has x y
 -- what a picture call has that answers 0
 pub record PictureAccepted (w h kind d1 d2 : ℕ) (picture : List ℕ) (distances sites scratch : ℕ) : Type 0 where
   pub sides : Sides w h
-  pub kind-in : kind ≤ 3
+  pub kind-in : kind ≤ kind-limit
   pub weights : kind ≡ chamfer-kind → Weights d1 d2
   pub lent : Lent w h (length picture) distances sites scratch
   pub bytes : Bytes picture
@@ -57,7 +57,7 @@ pub record PictureAccepted (w h kind d1 d2 : ℕ) (picture : List ℕ) (distance
 -- what a cost call has that answers 0
 pub record CostAccepted (w h kind : ℕ) (costs : List ℕ) (distances sites scratch : ℕ) : Type 0 where
   pub sides : Sides w h
-  pub kind-in : kind ≤ 1
+  pub kind-in : kind ≤ cost-kind-limit
   pub lent : Lent w h (length costs) distances sites scratch
   pub costs-in : Costs costs
   pub unmarked : Somewhere w h (Unmarked w costs)

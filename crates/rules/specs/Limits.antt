@@ -3,7 +3,7 @@
 -- its powers of two are counted as 13.
 -- Assumes nothing.
 use mathlib.Core.Path.{_≡_}
-use Prim.Native.Nat.{ℕ, _^_}
+use Prim.Native.Nat.{ℕ, _*_, _^_}
 use Rattle.rules.specs.declared.LimitTable.{LimitTable}
 
 -- "Width W and height H are each 1 to 512."
@@ -17,6 +17,13 @@ mark = 4_294_967_295
 -- "a cost of 0 to 1,000,000"
 abbrev pub cost-limit : ℕ
 cost-limit = 1_000_000
+
+-- "kind above 3 (costs: above 1)": the greatest kind of a picture's map, and of a cost picture's
+abbrev pub kind-limit : ℕ
+kind-limit = 3
+
+abbrev pub cost-kind-limit : ℕ
+cost-kind-limit = 1
 
 -- "We accept d1 from 1 to 255"
 abbrev pub weight-limit : ℕ
@@ -50,11 +57,17 @@ file-limit = 16_384
 abbrev pub line-limit : ℕ
 line-limit = 2 ^ 50
 
+-- What every kind lifts a difference of rows below: ours too. Kind 0 lifts to its square.
+abbrev pub lift-limit : ℕ
+lift-limit = side-limit * side-limit
+
 -- the constants of `src/lib.rt`, each equal to its limit
 pub record Stated (l : LimitTable) : Type 0 where
   pub side-is : l .side ≡ side-limit
   pub mark-is : l .mark ≡ mark
   pub cost-is : l .cost ≡ cost-limit
+  pub kind-is : l .kind ≡ kind-limit
+  pub cost-kind-is : l .«cost_kind» ≡ cost-kind-limit
   pub weight-is : l .weight ≡ weight-limit
   pub column-is : l .column ≡ column-limit
   pub value-is : l .value ≡ value-limit

@@ -1,9 +1,10 @@
--- "The measures": the four kinds over absolute differences, and the weights of kind 3. Kinds 0 to 2 are also said as
--- a measure of two parts, lift and combine, which is what the engine along a line and the step from columns to rows
+-- "The measures": the four kinds over absolute differences, and the weights of kind 3. All kinds but that are also said
+-- as a measure of two parts, lift and combine, which is what the engine along a line and the step from columns to rows
 -- go by. Assumes nothing.
 use Prim.Native.Nat.{ℕ, zero, suc, _+_, _-_, _*_, _≤_, _<_, min, max}
 use mathlib.Core.Path.{_≡_}
-use Rattle.rules.specs.Limits.{weight-limit}
+use mathlib.Core.Logic.{_≢_}
+use Rattle.rules.specs.Limits.{kind-limit, weight-limit}
 use Rattle.rules.specs.Board.{away}
 
 -- kind 3: "d2·min(dx,dy) + d1·(max − min)"
@@ -38,6 +39,11 @@ abbrev pub measure : ℕ → Measure
 measure zero = record { lift = λ dy. dy * dy; combine = λ dx v. dx * dx + v }
 measure (suc zero) = record { lift = λ dy. dy; combine = λ dx v. dx + v }
 measure (suc (suc k)) = record { lift = λ dy. dy; combine = λ dx v. max dx v }
+
+-- the kinds that have these parts, and whose maps name a cell: all but the chamfer form
+pub record HasParts (kind : ℕ) : Type 0 where
+  pub kind-in : kind ≤ kind-limit
+  pub no-chamfer : kind ≢ chamfer-kind
 
 -- For columns i < u: the curve of column i, which holds the value a, is at most that of u, which holds b, at the place x.
 abbrev pub HoldsAt : Measure → ℕ → ℕ → ℕ → ℕ → ℕ → Type 0

@@ -7,7 +7,7 @@ use Prim.Native.Nat.{ℕ, zero, suc, _+_, _*_, _%_, _^_}
 use lib.Dec.{leb, ltb, eqb}
 use lib.ListN.{length}
 use Rattle.rules.specs.declared.Setting.{Setting}
-use Rattle.rules.specs.Limits.{side-limit, mark, cost-limit, weight-limit, column-limit, value-limit, knob-limit, clear-limit, file-limit}
+use Rattle.rules.specs.Limits.{side-limit, mark, kind-limit, cost-kind-limit, cost-limit, weight-limit, column-limit, value-limit, knob-limit, clear-limit, file-limit}
 use Rattle.rules.specs.Measures.{chamfer-kind}
 use Rattle.rules.specs.Knob.{pitch-word, radius-word, good-word}
 use Rattle.rules.specs.BenchFile.{bored-by, off-board}
@@ -102,7 +102,7 @@ bad-length bytes = not (eqb (bytes % 4) 0) || ltb file-limit bytes
 abbrev pub picture-rows : ℕ → ℕ → ℕ → ℕ → ℕ → List ℕ → ℕ → ℕ → ℕ → List Row
 picture-rows w h kind d1 d2 picture distances sites scratch =
     row 1 (bad-sides w h)
-    ∷ row 2 (bad-kind 3 kind)
+    ∷ row 2 (bad-kind kind-limit kind)
     ∷ row 3 (bad-weights kind d1 d2)
     ∷ row 4 (bad-buffers w h (length picture) distances sites scratch)
     ∷ row 5 (any bad-byte picture)
@@ -113,7 +113,7 @@ picture-rows w h kind d1 d2 picture distances sites scratch =
 abbrev pub cost-rows : ℕ → ℕ → ℕ → List ℕ → ℕ → ℕ → ℕ → List Row
 cost-rows w h kind costs distances sites scratch =
     row 1 (bad-sides w h)
-    ∷ row 2 (bad-kind 1 kind)
+    ∷ row 2 (bad-kind cost-kind-limit kind)
     ∷ row 4 (bad-buffers w h (length costs) distances sites scratch)
     ∷ row 5 (any bad-cost costs)
     ∷ row 6 (all-marked costs)

@@ -39,12 +39,9 @@ pub record CostSite (w h : ℕ) (Feature : ℕ → ℕ → Type 0) (word : ℕ �
   pub least-column : (i′ j′ : ℕ) → i′ < w → j′ < h → Feature i′ j′ → word i′ j′ ≡ word i j → i ≤ i′
   pub least-row : (j′ : ℕ) → j′ < h → Feature i j′ → word i j′ ≡ word i j → j ≤ j′
 
--- The same rules as an order of the cells: by word, column, dy and row; for costs by word, column and row.
-abbrev pub picture-keys : (ℕ → ℕ → ℕ) → (ℕ → ℕ) → ℕ → ℕ → List ℕ
-picture-keys word dy i j = word i j ∷ i ∷ dy j ∷ j ∷ []
-
-abbrev pub cost-keys : (ℕ → ℕ → ℕ) → ℕ → ℕ → List ℕ
-cost-keys word i j = word i j ∷ i ∷ j ∷ []
+-- The tie rule as an order of the cells: by word, column, dy and row. With 0 for every dy it is the rule for costs.
+abbrev pub site-keys : (ℕ → ℕ → ℕ) → (ℕ → ℕ) → ℕ → ℕ → List ℕ
+site-keys word dy i j = word i j ∷ i ∷ dy j ∷ j ∷ []
 
 -- the feature that no feature comes before, in the order by such keys
 pub record First (w h : ℕ) (Feature : ℕ → ℕ → Type 0) (keys : ℕ → ℕ → List ℕ) (i j : ℕ) : Type 0 where

@@ -9,6 +9,12 @@ pub const SIDE_LIMIT: u32 = 512;
 pub const MARK: u32 = 4_294_967_295;
 // "a cost of 0 to 1,000,000"
 pub const COST_LIMIT: u32 = 1_000_000;
+// "kind above 3 (costs: above 1)"
+pub const KIND_LIMIT: u32 = 3;
+
+pub const COST_KIND_LIMIT: u32 = 1;
+// The kind whose maps are made by scans, and name no cell.
+pub const CHAMFER_KIND: u32 = 3;
 // "d1 from 1 to 255"
 pub const WEIGHT_LIMIT: u32 = 255;
 // The changeover's "columns 0 to 511".
@@ -31,6 +37,8 @@ pub struct LimitTable {
     pub side: u32,
     pub mark: u32,
     pub cost: u32,
+    pub kind: u32,
+    pub cost_kind: u32,
     pub weight: u32,
     pub column: u32,
     pub value: u32,
@@ -48,6 +56,8 @@ pub fn limits() -> LimitTable
         side: SIDE_LIMIT,
         mark: MARK,
         cost: COST_LIMIT,
+        kind: KIND_LIMIT,
+        cost_kind: COST_KIND_LIMIT,
         weight: WEIGHT_LIMIT,
         column: COLUMN_LIMIT,
         value: VALUE_LIMIT,

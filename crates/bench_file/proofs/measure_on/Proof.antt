@@ -3,27 +3,26 @@
 use mathlib.Core.Path.{_≡_, _∙_, sym, subst}
 use mathlib.Core.Bool.{false}
 use Prim.Native.Nat.{_*_}
+use native.Mathlib.Omega.{arith}
 use lib.ListN.{length}
 use Rattle.rules.specs.Limits.{bench-side}
 use Rattle.rules.specs.BenchFile.{bored-by}
 use Rattle.rules.specs.Refusals.{no-bore}
-use Rattle.rules.specs.Calls.{buffers, PictureAfter}
 use Rattle.bench_file.specs.Reading.{Peak}
-use Rattle.bench_file.proofs.Answering.{six, read-call, picture-of, count-of, map-answers, farthest-of}
+use Rattle.bench_file.proofs.Answering.{six, read-call, picture-of, count-of, map-accepted, farthest-of}
 use borrow.Author.Needs.{needs}
 use Rattle.bench_file.proofs.measure_on.Statement.{statement}
 use Rattle.bench_file.proofs.measure_on.Tie as tie
 
--- the way back from the boring to the start
+-- the ways back: from the boring to the start, from the test of 6 to the boring, and from the map to that test
 abbrev at-start : tie.After-bore → tie.Start
 at-start c = c .before .before .before .before .before .before .before
 
--- the way back from the map to the test of 6, and from there to the boring
-abbrev tested : tie.After-picture-map → tie.Else1
-tested c = c .before .before .before .before .before
-
 abbrev bored : tie.After-no-bore → tie.After-bore
 bored c = c .before .before .before .before
+
+abbrev tested : tie.After-row-map → tie.Else1
+tested c = c .before .before .before .before .before
 
 -- what is bored is the file's picture
 picture-is : (c : tie.After-bore) → c .bore .last .1 .0 ≡ bored-by (at-start c .args .file .now)
@@ -32,20 +31,6 @@ picture-is c = picture-of (at-start c .args .file .now) (at-start c .pre .1 .sou
 -- past the test of 6 it has a bore
 has-bore : (c : tie.Else1) → no-bore (bored (c .before) .bore .last .1 .0) ≡ false
 has-bore c = sym (c .before .no-bore .ensures) ∙ c .if1 .left
-
--- the map is made
-mapped : (c : tie.After-picture-map) → let b = bored (tested c .before) in
-    let a = at-start b .args in
-    PictureAfter bench-side bench-side 0 0 0 (b .bore .last .1 .0)
-    (buffers (a .distances .now) (a .sites .now) (a .scratch .now))
-    (buffers (c .picture-map .last .1 .1 .1 .1 .1 .1 .0) (c .picture-map .last .1 .1 .1 .1 .1 .1 .1 .0)
-    (c .picture-map .last .1 .1 .1 .1 .1 .1 .1 .1 .0))
-mapped c =
-    let b = bored (tested c .before) in
-    let r = at-start b .pre .1 in
-    let answers = map-answers (at-start b .args .file .now) (picture-is b) (has-bore (tested c)) (r .distances-is)
-    (r .sites-is) (r .scratch-is) in
-    c .picture-map .ensures .done (c .picture-map .ensures .answered ∙ answers)
 
 bore-requires : tie.Need-bore-requires
 bore-requires c κs = search needs
@@ -61,8 +46,14 @@ returns c =
     let b = bored (c .before) in
     six (at-start b .args .file .now) (at-start b .pre .0) (picture-is b) (sym (c .before .no-bore .ensures) ∙ c .if1 .taken)
 
-picture-map-requires : tie.Need-picture-map-requires
-picture-map-requires c κs = search needs
+row-map-requires : tie.Need-row-map-requires
+row-map-requires c κs =
+    let t = c .before .before .before .before in
+    let b = bored (t .before) in
+    let r = at-start b .pre .1 in (
+      record { kind-in = omega arith; no-chamfer = omega arith },
+      map-accepted (at-start b .args .file .now) (picture-is b) (has-bore t) (r .distances-is) (r .sites-is) (r .scratch-is),
+    )
 
 peak-requires : tie.Need-peak-requires
 peak-requires c κs = search needs
@@ -93,8 +84,8 @@ returns-2 c =
     let m = c .before .before .before .before .before .before .before .before .before in
     let t = tested m in
     let b = bored (t .before) in
-    let M = mapped m in
-    let words = m .picture-map .last .1 .1 .1 .1 .1 .1 .0 in
+    let M = m .row-map .ensures 0 0 in
+    let words = m .row-map .last .1 .1 .1 .1 .0 in
     let long : length words ≡ bench-side * bench-side = M .distances-beyond .as-long ∙ at-start b .pre .1 .distances-is in
     read-call (at-start b .args .file .now) (at-start b .pre .0) (picture-is b) (has-bore t)
     (count-of (at-start b .pre .1 .sound) (b .bore .ensures))
@@ -108,7 +99,7 @@ measure-on-spec =
     no-bore-requires
     same-length
     returns
-    picture-map-requires
+    row-map-requires
     peak-requires
     mul-farthest
     slice-read-farthest

@@ -2,7 +2,7 @@
 -- most 1, and row y begins at `start`. The measure is the number of rows left. Assumes nothing.
 use Prim.Native.Nat.{_-_}
 use native.Mathlib.Omega.{arith}
-use Rattle.columns.proofs.Rows.{row-inside}
+use Rattle.rules.proofs.Board.{row-ends}
 use Rattle.columns.proofs.Testing.{Clean, clean-start, clean-more, bad-row, clean-end}
 use Rattle.columns.proofs.bad_band.Statement.{statement}
 use Rattle.columns.proofs.bad_band.Tie as tie
@@ -19,7 +19,7 @@ loop-holds c = clean-start
 row-most-requires : tie.Need-row-most-requires Inv-loop μ-loop
 row-most-requires c κs =
     let begun = c .before .before .before in
-    let inside = row-inside (begun .args .w) (c .before .loop .inv .start-is) (c .loop-test .taken) in
+    let inside = row-ends (begun .args .w) (c .before .loop .inv .start-is) (c .loop-test .taken) in
     omega (arith, begun .pre .0)
 
 returns : tie.Need-returns Inv-loop μ-loop
@@ -31,7 +31,7 @@ add-start : tie.Need-add-start Inv-loop μ-loop
 add-start c =
     let turn = c .before .before in
     let loop = turn .before in
-    omega (arith, row-inside (loop .before .before .args .w) (loop .loop .inv .start-is) (turn .loop-test .taken))
+    omega (arith, row-ends (loop .before .before .args .w) (loop .loop .inv .start-is) (turn .loop-test .taken))
 
 add-y : tie.Need-add-y Inv-loop μ-loop
 add-y c = omega arith

@@ -30,7 +30,7 @@ place-requires c κs = let p = c .before .before .before .before .before .pre in
     let k = c .before .before .before .before .before .args .kept - 1 in
     let e : k + 1 ≡ c .before .before .before .before .before .args .kept = omega arith in
     let is = c .as-index .ensures in
-    (p .0, p .1, rw is (p .5 .before k e), p .3, rw is (p .5 .first k e))
+    (p .0 .gauged, rw is (p .3 .before k e), p .1, rw is (p .3 .first k e))
 
 returns-2 : tie.Need-returns-2
 returns-2 c = begins-after (c .before .before .before .before .before .before .args .work .now) (c .before .before .before .if1 .left) (c .before .as-index .ensures) (c .place .ensures)

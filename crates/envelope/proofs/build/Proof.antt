@@ -7,7 +7,7 @@ use native.Mathlib.Omega.{arith}
 use lib.ListN.{length, set, length-set}
 use lib.Seq.{getD-set-same, getD-set-other}
 use Rattle.gauge.specs.Line.{height-at}
-use Rattle.envelope.specs.Stretches.{Room, Stretches, starts, holders}
+use Rattle.envelope.specs.Stretches.{Given, Stretches, starts, holders}
 use Rattle.envelope.proofs.Turns.{one-stretch, turned}
 use Rattle.envelope.proofs.Stores.{initial}
 use Rattle.envelope.proofs.build.Statement.{statement}
@@ -15,7 +15,7 @@ use Rattle.envelope.proofs.build.Tie as tie
 
 abbrev Inv-loop : tie.InvT-loop
 Inv-loop g values work₀ n m₀ u₀ work m u =
-    Room values work × (1 ≤ u) × (u ≤ length values)
+    Given g values work × (1 ≤ u) × (u ≤ length values)
     × Stretches (height-at g values) (length values) u m (starts work) (holders (length values) work)
 
 abbrev μ-loop : tie.MeasureT-loop
@@ -34,18 +34,16 @@ loop-holds : tie.Need-loop-holds Inv-loop μ-loop
 loop-holds c = let p = c .before .before .pre in
     let w = c .before .before .args .work .now in
     let n = length (c .before .before .args .values .now) in (
-      record { words = simp length-set (p .2 .words) },
+      record { gauged = p .gauged; room = simp length-set (p .room) },
       le-refl 1,
-      p .1 .from,
-      one-stretch _ (starts (set (set w 0 0) n 0)) (holders n (set (set w 0 0) n 0)) (p .1 .from)
+      p .gauged .line .from,
+      one-stretch _ (starts (set (set w 0 0) n 0)) (holders n (set (set w 0 0) n 0)) (p .gauged .line .from)
           (getD-set-other (set w 0 0) n 0 0 0 (omega arith) ∙ getD-set-same w 0 0 0 (omega arith))
           (rw add-zero (getD-set-same (set w 0 0) n 0 0 (simp length-set (omega arith)))),
     )
 
 turn-requires : tie.Need-turn-requires Inv-loop μ-loop
-turn-requires c κs = let p = c .before .before .before .before .before .pre in
-    let i = c .before .before .loop .inv in
-    (p .0, p .1, i .0, c .before .loop-test .taken, i .3)
+turn-requires c κs = let i = c .before .before .loop .inv in (i .0, c .before .loop-test .taken, i .3)
 
 add-u : tie.Need-add-u Inv-loop μ-loop
 add-u c = omega arith
@@ -54,12 +52,15 @@ loop-less : tie.Need-loop-less Inv-loop μ-loop
 loop-less c = omega arith
 
 loop-again : tie.Need-loop-again Inv-loop μ-loop
-loop-again c = let i = c .before .before .before .before .before .loop .inv in
-    let p = c .before .before .before .before .before .before .before .before .pre in
-    (record { words = c .before .before .turn .kept .1 .1 .0 ∙ i .0 .words }, omega arith, omega arith, turned _ (i .3) (initial _ (p .0) _ _) (c .before .before .turn .ensures))
+loop-again c = let i = c .before .before .before .before .before .loop .inv in (
+  record { gauged = i .0 .gauged; room = c .before .before .turn .kept .1 .1 .0 ∙ i .0 .room },
+  omega arith,
+  omega arith,
+  turned _ (i .3) (initial _ (i .0 .gauged .parts) _ _) (c .before .before .turn .ensures),
+)
 
 same-length : tie.Need-same-length Inv-loop μ-loop
-same-length c = c .before .loop .inv .0 .words ∙ sym (c .before .before .before .before .pre .2 .words)
+same-length c = c .before .loop .inv .0 .room ∙ sym (c .before .before .before .before .pre .room)
 
 returns : tie.Need-returns Inv-loop μ-loop
 returns c =

@@ -30,7 +30,7 @@ stays-requires c κs =
     let p = c .before .before .before .before .pre in
     let k = c .before .loop .kept - 1 in
     let inside : k < c .before .before .before .before .args .m = omega arith in
-    (p .0, p .1, p .2, p .3, omega (arith, p .4 .few), p .4 .on-line k inside, omega (arith, holder-in _ (p .4) k inside))
+    (p .0, p .1, omega (arith, p .2 .few), p .2 .on-line k inside, omega (arith, holder-in _ (p .2) k inside))
 
 returns : tie.Need-returns Inv-loop μ-loop
 returns c =

@@ -33,7 +33,7 @@ height-requires c κs = search needs
 
 height-requires-2 : tie.Need-height-requires-2
 height-requires-2 c κs = let p = c .before .before .before .before .before .before .before .pre in
-    (p .0, p .1, p .3, omega (arith, c .before .before .before .as-index .ensures))
+    (p .0 .gauged, p .1, omega (arith, c .before .before .before .as-index .ensures))
 
 returns : tie.Need-returns
 returns c = ap₂ leb

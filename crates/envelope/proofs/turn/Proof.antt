@@ -13,7 +13,7 @@ keep-requires c κs = search needs
 begin-requires : tie.Need-begin-requires
 begin-requires c κs = let p = c .before .before .before .before .before .pre in
     let k = c .before .keep .ensures in
-    (p .0, p .1, p .2, p .3, omega (arith, k .most, p .4 .few), against _ (p .4) (initial _ (p .0) _ _) k)
+    (p .0, p .1, omega (arith, k .most, p .2 .few), against _ (p .2) (initial _ (p .0 .gauged .parts) _ _) k)
 
 same-length : tie.Need-same-length
 same-length c = search needs
@@ -41,7 +41,7 @@ mul-work-2 c = search needs
 
 slice-write-work-2 : tie.Need-slice-write-work-2
 slice-write-work-2 c = let p = c .before .before .before .before .before .before .before .pre in
-    simp length-set (omega (arith, p .2 .words, p .4 .few, c .before .before .before .keep .ensures .most))
+    simp length-set (omega (arith, p .0 .room, p .2 .few, c .before .before .before .keep .ensures .most))
 
 add-t15 : tie.Need-add-t15
 add-t15 c = search needs
@@ -52,7 +52,7 @@ same-length-2 c = search needs
 returns-2 : tie.Need-returns-2
 returns-2 c = let p = c .before .before .before .before .before .before .before .pre in
     let k = c .before .before .before .keep .ensures in
-    turn-begun (c .before .before .before .before .before .before .before .args .work .now) k (c .before .begin .ensures) (p .2 .words) (omega (arith, k .most, p .4 .few)) (c .if1 .left)
+    turn-begun (c .before .before .before .before .before .before .before .args .work .now) k (c .before .begin .ensures) (p .0 .room) (omega (arith, k .most, p .2 .few)) (c .if1 .left)
 
 pub turn-spec : {M : Type 1} → statement M
 turn-spec =

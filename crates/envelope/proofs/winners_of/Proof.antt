@@ -5,12 +5,12 @@ use Rattle.envelope.proofs.winners_of.Statement.{statement}
 use Rattle.envelope.proofs.winners_of.Tie as tie
 
 build-requires : tie.Need-build-requires
-build-requires c κs = let p = c .before .before .before .before .pre in (p .0, p .1, p .2)
+build-requires c κs = c .before .before .before .before .pre .0
 
 spread-requires : tie.Need-spread-requires
 spread-requires c κs = let p = c .before .before .before .before .before .before .before .before .before .pre in
     let b = c .before .before .before .before .build in
-    spreads-of (b .ensures) (p .3) (b .kept .1 .1 .0 ∙ p .2 .words)
+    spreads-of (b .ensures) (p .1) (b .kept .1 .1 .0 ∙ p .0 .room)
 
 same-length : tie.Need-same-length
 same-length c = c .before .before .before .before .before .before .before .build .kept .1 .1 .0
@@ -20,7 +20,7 @@ same-length-2 c = c .before .before .spread .kept .1 .1 .0
 
 returns : tie.Need-returns
 returns c = let p = c .before .before .before .before .before .before .before .before .before .before .before .before .pre in
-    wins-spread (c .before .before .before .before .before .before .before .build .ensures) (p .3) (c .before .before .spread .ensures)
+    wins-spread (c .before .before .before .before .before .before .before .build .ensures) (p .1) (c .before .before .spread .ensures)
 
 pub winners-of-spec : {M : Type 1} → statement M
 winners-of-spec =

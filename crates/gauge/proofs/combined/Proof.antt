@@ -23,10 +23,10 @@ returns-2 : tie.Need-returns-2
 returns-2 c = rw (c .if2 .taken) refl
 
 returns-3 : tie.Need-returns-3
-returns-3 c = rw (third-kind (c .before .before .before .pre .0 .kind-in) (c .before .before .if1 .left) (c .before .if2 .left)) (omega arith)
+returns-3 c = rw (third-kind (c .before .before .before .pre .0) (c .before .before .if1 .left) (c .before .if2 .left)) (omega arith)
 
 returns-4 : tie.Need-returns-4
-returns-4 c = rw (third-kind (c .before .before .before .pre .0 .kind-in) (c .before .before .if1 .left) (c .before .if2 .left)) (omega arith)
+returns-4 c = rw (third-kind (c .before .before .before .pre .0) (c .before .before .if1 .left) (c .before .if2 .left)) (omega arith)
 
 pub combined-spec : {M : Type 1} → statement M
 combined-spec =

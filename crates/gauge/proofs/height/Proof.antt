@@ -18,7 +18,7 @@ shared-slice-read-combined : tie.Need-shared-slice-read-combined
 shared-slice-read-combined c = search needs
 
 combined-requires : tie.Need-combined-requires
-combined-requires c κs = (c .before .before .before .pre .0, omega (arith, c .before .apart .ensures, apart-below (c .before .before .before .args .x) (c .before .before .before .args .i)), c .before .before .before .pre .1 .values-to (c .before .before .before .args .i) (c .before .before .before .pre .2))
+combined-requires c κs = (c .before .before .before .pre .0 .parts, omega (arith, c .before .apart .ensures, apart-below (c .before .before .before .args .x) (c .before .before .before .args .i)), c .before .before .before .pre .0 .line .values-to (c .before .before .before .args .i) (c .before .before .before .pre .1))
 
 returns : tie.Need-returns
 unfolding height-at

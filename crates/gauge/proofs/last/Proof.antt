@@ -33,10 +33,10 @@ returns-2 : tie.Need-returns-2
 returns-2 c = (c .last-manhattan .ensures .0, rw (c .before .if2 .taken) (c .last-manhattan .ensures .1))
 
 last-chessboard-requires : tie.Need-last-chessboard-requires
-last-chessboard-requires c κs = (c .before .before .pre .1, rw (third-kind (c .before .before .pre .0 .kind-in) (c .before .if1 .left) (c .if2 .left)) at (c .before .before .pre .2))
+last-chessboard-requires c κs = (c .before .before .pre .1, rw (third-kind (c .before .before .pre .0) (c .before .if1 .left) (c .if2 .left)) at (c .before .before .pre .2))
 
 returns-3 : tie.Need-returns-3
-returns-3 c = (c .last-chessboard .ensures .0, rw (third-kind (c .before .before .before .pre .0 .kind-in) (c .before .before .if1 .left) (c .before .if2 .left)) (c .last-chessboard .ensures .1))
+returns-3 c = (c .last-chessboard .ensures .0, rw (third-kind (c .before .before .before .pre .0) (c .before .before .if1 .left) (c .before .if2 .left)) (c .last-chessboard .ensures .1))
 
 pub last-spec : {M : Type 1} → statement M
 last-spec =

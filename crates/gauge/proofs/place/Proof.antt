@@ -25,15 +25,15 @@ unfolding height-at
 last-requires c κs = let p = c .before .before .before .pre in
     let i = c .before .before .before .args .i in
     let u = c .before .before .before .args .u in (
-      p .0,
+      p .0 .parts,
       record {
-        apart = p .2;
-        column-in = p .3;
-        line-to = p .1 .to;
-        left-to = p .1 .values-to i (omega arith);
-        right-to = p .1 .values-to u (p .3);
+        apart = p .1;
+        column-in = p .2;
+        line-to = p .0 .line .to;
+        left-to = p .0 .line .values-to i (omega arith);
+        right-to = p .0 .line .values-to u (p .2);
       },
-      p .4,
+      p .3,
     )
 
 add-if1 : tie.Need-add-if1

@@ -1,6 +1,7 @@
--- `lane::widest` meets its contract: a call that is refused leaves everything, and past the tests the lane is laid. Assumes
+-- `lane::widest` meets its contract: a call that is refused leaves everything, and past the tests the lane is found. Assumes
 -- nothing.
 use mathlib.Core.Path.{refl, _∙_, sym}
+use Rattle.rules.proofs.Refusals.{lane-accepted}
 use Rattle.rules.proofs.Calls.{refused-call, made-call}
 use borrow.Author.Needs.{needs}
 use Rattle.lane.proofs.widest.Statement.{statement}
@@ -15,7 +16,7 @@ returns c = refused-call (c .before .lane-refusal .ensures) (c .if1 .taken) (ref
 accepted-lane-requires : tie.Need-accepted-lane-requires
 accepted-lane-requires c κs =
     let t = c .before .before .before .before in
-    sym (t .before .lane-refusal .ensures) ∙ t .if1 .left
+    lane-accepted _ _ _ _ _ _ _ _ _ (sym (t .before .lane-refusal .ensures) ∙ t .if1 .left)
 
 same-length : tie.Need-same-length
 same-length c = search needs

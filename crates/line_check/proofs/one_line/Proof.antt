@@ -1,10 +1,10 @@
 -- `line_check::one_line` meets its contract: the parts lent are as long as the line, and no more places are wrong than
 -- it has. Assumes nothing.
-use mathlib.Core.Path.{_∙_, sym}
+use mathlib.Core.Path.{_∙_, sym, ap₂}
 use Prim.Native.Nat.{_+_, _≤_}
 use native.Mathlib.Omega.{arith}
 use Rattle.rules.specs.Limits.{side-limit, mark}
-use Rattle.line_check.proofs.Lent.{part, room}
+use Rattle.line_check.proofs.Lent.{part}
 use borrow.Author.Needs.{needs}
 use Rattle.line_check.proofs.one_line.Statement.{statement}
 use Rattle.line_check.proofs.one_line.Tie as tie
@@ -43,7 +43,7 @@ try-line-requires c κs =
       c .before .before .before .before .before .before .pre,
       rw values (n .ensures .0),
       rw values (n .ensures .1),
-      room values work,
+      work ∙ sym (ap₂ _+_ values values),
       winners ∙ sym values,
     )
 

@@ -7,7 +7,7 @@ use borrow.Author.Needs.{needs}
 use Rattle.maps.proofs.accepted_map.Statement.{statement}
 use Rattle.maps.proofs.accepted_map.Tie as tie
 
--- the ways back from the kind's test to the entry
+-- the ways back from the kind's test to the start
 abbrev chamfer : tie.Then1 → tie.Start
 chamfer c = c .before .before .before .before .before .before .before .before
 
@@ -48,7 +48,7 @@ row-map-requires : tie.Need-row-map-requires
 row-map-requires c κs =
     let t = c .before .before .before in
     let p = other t .pre in (
-      omega (arith, p .kind-in, t .if1 .left),
+      record { kind-in = p .kind-in; no-chamfer = t .if1 .left },
       record {
         sides = p .sides;
         kind-in = p .kind-in;

@@ -19,7 +19,7 @@ all-rows-requires : tie.Need-all-rows-requires
 all-rows-requires c κs =
     let s = c .before .before .before .before .before in
     let a = at-start s .pre .1 in (
-      record { kind-in = omega (arith, at-start s .pre .0) },
+      at-start s .pre .0,
       a .sides,
       a .lent .distances-from,
       a .lent .sites-from,

@@ -6,7 +6,7 @@ use native.Mathlib.Omega.{arith}
 use lib.ListN.{length}
 use borrow.Rule.Slice.PartMut.{same-len-mid}
 use Rattle.rules.proofs.Parts.{part-length}
-use Rattle.cost_lines.proofs.ColumnLine.{known, column-is-line, column-more}
+use Rattle.cost_lines.proofs.ColumnLine.{column-line, column-more}
 use borrow.Author.Needs.{needs}
 use Rattle.cost_lines.proofs.column.column_line.Statement.{statement}
 use Rattle.cost_lines.proofs.column.column_line.Tie as tie
@@ -49,10 +49,9 @@ winners-of-requires c κs =
     let a = at-start f .args in
     let h = length (a .values .now) in
     let long = f .gather .kept .1 .1 .1 .0 in (
-      known (a .g) (p .0 .kind-in),
-      column-is-line (p .0) (p .1) long (f .gather .ensures),
       record {
-        words = part-length {a = a .w * h} {e = a .w * h + h + h} (a .scratch .now) (omega arith)
+        gauged = column-line (p .0) (p .1) long (f .gather .ensures);
+        room = part-length {a = a .w * h} {e = a .w * h + h + h} (a .scratch .now) (omega arith)
             (omega (arith, p .3)) ∙ omega (arith, long);
       },
       p .2 ∙ sym long,

@@ -4,7 +4,8 @@ use mathlib.Core.Path.{refl, _∙_, sym}
 use Prim.Native.Nat.{_+_, _-_, _*_, _≤_}
 use native.Mathlib.Omega.{arith}
 use lib.ListN.{length}
-use Rattle.cost_lines.proofs.RowLine.{row-within, row-part-long, Crossing, crossing-more}
+use Rattle.rules.proofs.Board.{row-ends}
+use Rattle.cost_lines.proofs.RowLine.{row-part-long, Crossing, crossing-more}
 use Rattle.cost_lines.proofs.row.all_rows.Statement.{statement}
 use Rattle.cost_lines.proofs.row.all_rows.Tie as tie
 
@@ -19,7 +20,7 @@ abbrev μ-loop : tie.MeasureT-loop
 inside : (c : tie.In-loop Inv-loop μ-loop) → let a = c .before .before .before .before .before .before .before .args
     in let w = length (a .values .now) in
     c .before .loop .y * w + w ≤ w * a .h
-inside c = row-within (length (c .before .before .before .before .before .before .before .args .values .now))
+inside c = row-ends (length (c .before .before .before .before .before .before .before .args .values .now)) refl
     (c .loop-test .taken)
 
 -- the way back from the end of a turn to its beginning
@@ -35,7 +36,7 @@ loop-holds c =
       distances-long = p .3;
       sites-long = p .4;
       columns = p .1;
-      left = λ j l. absurd (omega arith);
+      made = λ j l. absurd (omega arith);
       within = omega arith;
     }
 
@@ -128,7 +129,7 @@ same-length-4 c =
     c .before .loop .inv .sites-long ∙ sym (c .before .before .before .before .before .before .before .pre .4)
 
 returns : tie.Need-returns Inv-loop μ-loop
-returns c = λ j l. c .before .loop .inv .left j (omega arith)
+returns c = λ j l. c .before .loop .inv .made j (omega arith)
 
 pub all-rows-spec : {M : Type 1} → statement M
 all-rows-spec =

@@ -7,11 +7,11 @@ use mathlib.Core.List.{List}
 use lib.ListN.{length, take, drop}
 use lib.Seq.{length-take-le, length-front}
 use Rattle.rules.specs.Limits.{side-limit}
-use Rattle.rules.proofs.Board.{cells-few}
+use Rattle.rules.proofs.Board.{cells-few, row-ends}
 use Rattle.rules.proofs.Parts.{part-length}
 use Rattle.rows.specs.Row.{Believed, RowMade}
 use Rattle.maps.specs.Rows.{RowsMade}
-use Rattle.maps.proofs.Rows.{rows-none, believed-at, rows-more-at, row-in-cells}
+use Rattle.maps.proofs.Rows.{rows-none, believed-at, rows-more-at}
 use Rattle.maps.proofs.lines.all_rows.Statement.{statement}
 use Rattle.maps.proofs.lines.all_rows.Tie as tie
 
@@ -22,22 +22,36 @@ Inv-loop g w h distances₀ sites₀ scratch₀ line₀ tail at₀ y₀ distance
 abbrev μ-loop : tie.MeasureT-loop
 μ-loop g w h distances₀ sites₀ scratch₀ line₀ tail at₀ y₀ distances sites scratch line at y = h - y
 
+-- the ways back: from a turn of the loop to the start, from the line that is lent to its turn, from all that is lent to
+-- the line, and from the end of the turn to the row line
+abbrev at-start : tie.In-loop Inv-loop μ-loop → tie.Start Inv-loop μ-loop
+at-start c = c .before .before .before .before .before
+
+abbrev turn : tie.After-line Inv-loop μ-loop → tie.In-loop Inv-loop μ-loop
+turn c = c .before .before
+
+abbrev lending : tie.After-row-line-arg3 Inv-loop μ-loop → tie.After-line Inv-loop μ-loop
+lending c = c .before .before
+
+abbrev lined : tie.After-slice-known6 Inv-loop μ-loop → tie.After-row-line Inv-loop μ-loop
+lined c = c .before .before .before .before .before .before .before
+
 -- the row's end is within the cells
-inside : (c : tie.In-loop Inv-loop μ-loop) → let a = c .before .before .before .before .before .args in c .before .loop .at + a .w ≤ a .w * a .h
-inside c = row-in-cells (c .before .before .before .before .before .args .w) (c .before .loop .inv .1) (c .loop-test .taken)
+inside : (c : tie.In-loop Inv-loop μ-loop) → let a = at-start c .args in c .before .loop .at + a .w ≤ a .w * a .h
+inside c = row-ends (at-start c .args .w) (c .before .loop .inv .1) (c .loop-test .taken)
 
 -- the line that is lent has a value for each column
-lent : (c : tie.In-loop Inv-loop μ-loop) → let w = c .before .before .before .before .before .args .w in length (take w (c .before .loop .line)) ≡ w
-lent c = length-take-le _ _ (omega (arith, c .before .loop .inv .3, c .before .before .before .before .before .pre .1 .width-to))
+lent : (c : tie.In-loop Inv-loop μ-loop) → let w = at-start c .args .w in length (take w (c .before .loop .line)) ≡ w
+lent c = length-take-le _ _ (omega (arith, c .before .loop .inv .3, at-start c .pre .1 .width-to))
 
 -- and so have the rows of distances and sites
-lent-row : (c : tie.In-loop Inv-loop μ-loop) (l l₀ : List ℕ) → let w = c .before .before .before .before .before .args .w in
-    let n = w * c .before .before .before .before .before .args .h in
+lent-row : (c : tie.In-loop Inv-loop μ-loop) (l l₀ : List ℕ) → let w = at-start c .args .w in
+    let n = w * at-start c .args .h in
     let at = c .before .loop .at in
     n ≤ length l₀ → length l ≡ length l₀ → length (take (at + w - at) (drop at l)) ≡ w
 lent-row c l l₀ room long =
     let at = c .before .loop .at in
-    let w = c .before .before .before .before .before .args .w in
+    let w = at-start c .args .w in
     part-length {a = at} {e = at + w} l (omega arith) (omega (arith, inside c)) ∙ omega arith
 
 mul-tail : tie.Need-mul-tail Inv-loop μ-loop
@@ -47,16 +61,16 @@ loop-holds : tie.Need-loop-holds Inv-loop μ-loop
 loop-holds c = (rows-none _ _ _, omega arith, omega arith, refl)
 
 add-end : tie.Need-add-end Inv-loop μ-loop
-add-end c = omega (arith, inside c, cells-few (c .before .before .before .before .before .pre .1))
+add-end c = omega (arith, inside c, cells-few (at-start c .pre .1))
 
 array-borrow-prefix-line : tie.Need-array-borrow-prefix-line Inv-loop μ-loop
-array-borrow-prefix-line c = omega (arith, c .before .before .loop .inv .3, c .before .before .before .before .before .before .pre .1 .width-to)
+array-borrow-prefix-line c = omega (arith, c .before .before .loop .inv .3, at-start (c .before) .pre .1 .width-to)
 
 slice-aggregate-row-line : tie.Need-slice-aggregate-row-line Inv-loop μ-loop
-slice-aggregate-row-line c = sym (lent (c .before .before))
+slice-aggregate-row-line c = sym (lent (turn c))
 
 mul-row-line : tie.Need-mul-row-line Inv-loop μ-loop
-mul-row-line c = omega (arith, inside (c .before .before), cells-few (c .before .before .before .before .before .before .before .pre .1))
+mul-row-line c = omega (arith, inside (turn c), cells-few (at-start (turn c) .pre .1))
 
 sub-row-line : tie.Need-sub-row-line Inv-loop μ-loop
 sub-row-line c = omega arith
@@ -65,10 +79,11 @@ part-row-line-start : tie.Need-part-row-line-start Inv-loop μ-loop
 part-row-line-start c = omega arith
 
 part-row-line-end : tie.Need-part-row-line-end Inv-loop μ-loop
-part-row-line-end c = omega (arith, inside (c .before .before), c .before .before .before .before .before .before .before .pre .2, c .before .before .before .loop .inv .0 .distances-beyond .as-long)
+part-row-line-end c =
+    let t = turn c in omega (arith, inside t, at-start t .pre .2, t .before .loop .inv .0 .distances-beyond .as-long)
 
 mul-row-line-2 : tie.Need-mul-row-line-2 Inv-loop μ-loop
-mul-row-line-2 c = omega (arith, inside (c .before .before .before), cells-few (c .before .before .before .before .before .before .before .before .pre .1))
+mul-row-line-2 c = let t = turn (c .before) in omega (arith, inside t, cells-few (at-start t .pre .1))
 
 sub-row-line-2 : tie.Need-sub-row-line-2 Inv-loop μ-loop
 sub-row-line-2 c = omega arith
@@ -77,17 +92,20 @@ part-row-line-start-2 : tie.Need-part-row-line-start-2 Inv-loop μ-loop
 part-row-line-start-2 c = omega arith
 
 part-row-line-end-2 : tie.Need-part-row-line-end-2 Inv-loop μ-loop
-part-row-line-end-2 c = omega (arith, inside (c .before .before .before), c .before .before .before .before .before .before .before .before .pre .3, c .before .before .before .before .loop .inv .0 .sites-beyond .as-long)
+part-row-line-end-2 c =
+    let t = turn (c .before) in
+    omega (arith, inside t, at-start t .pre .3, t .before .loop .inv .0 .sites-beyond .as-long)
 
 row-line-requires : tie.Need-row-line-requires Inv-loop μ-loop
 row-line-requires c κs =
-    let k = c .before .before .before .before in
-    let a = c .before .before .before .before .before .before .before .before .before .args in
-    let p = c .before .before .before .before .before .before .before .before .before .pre in
+    let k = turn (lending c) in
+    let a = at-start k .args in
+    let p = at-start k .pre in
     let i = k .before .loop .inv in
     let w = lent k in (
-      subst (λ n. Believed (a .g) (k .before .loop .y) (k .before .loop .at) (a .w * a .h) (k .before .loop .scratch) n) (sym w)
+      subst (Believed (a .g) (k .before .loop .at) (a .w * a .h) (k .before .loop .scratch)) (sym w)
           (believed-at (p .1) (k .before .loop .at) (i .1) (p .0) (p .5) (p .4) (k .loop-test .taken) (i .0)),
+      omega (arith, k .loop-test .taken, p .1 .height-to),
       lent-row k (k .before .loop .distances) (a .distances .now) (p .2) (i .0 .distances-beyond .as-long) ∙ sym w,
       lent-row k (k .before .loop .sites) (a .sites .now) (p .3) (i .0 .sites-beyond .as-long) ∙ sym w,
     )
@@ -100,17 +118,20 @@ loop-less c = omega arith
 
 loop-again : tie.Need-loop-again Inv-loop μ-loop
 loop-again c =
-    let k = c .before .before .before .before .before .before .before .before .before .before .before .before in
-    let r = c .before .before .before .before .before .before .before .row-line in
-    let a = c .before .before .before .before .before .before .before .before .before .before .before .before .before .before .before .before .before .args in
-    let p = c .before .before .before .before .before .before .before .before .before .before .before .before .before .before .before .before .before .pre in
+    let k = turn (lending (lined c .before)) in
+    let r = lined c .row-line in
+    let a = at-start k .args in
+    let p = at-start k .pre in
     let i = k .before .loop .inv in
     let at = k .before .loop .at in
     let d = r .last .1 .1 .1 .1 .1 .1 .0 in
     let s = r .last .1 .1 .1 .1 .1 .1 .1 .0 in
-    let d-long = r .kept .1 .1 .1 .1 .1 .1 .0 ∙ lent-row k (k .before .loop .distances) (a .distances .now) (p .2) (i .0 .distances-beyond .as-long) in
-    let s-long = r .kept .1 .1 .1 .1 .1 .1 .1 .0 ∙ lent-row k (k .before .loop .sites) (a .sites .now) (p .3) (i .0 .sites-beyond .as-long) in
-    let made = subst (λ n. RowMade (a .g) (k .before .loop .y) at (a .w * a .h) n (k .before .loop .scratch) (r .last .1 .1 .1 .1 .0) d s) (lent k) (r .ensures) in (
+    let d-long = r .kept .1 .1 .1 .1 .1 .1 .0
+    ∙ lent-row k (k .before .loop .distances) (a .distances .now) (p .2) (i .0 .distances-beyond .as-long) in
+    let s-long = r .kept .1 .1 .1 .1 .1 .1 .1 .0
+    ∙ lent-row k (k .before .loop .sites) (a .sites .now) (p .3) (i .0 .sites-beyond .as-long) in
+    let made = subst (λ n. RowMade (a .g) (k .before .loop .y) at (a .w * a .h) n (k .before .loop .scratch)
+    (r .last .1 .1 .1 .1 .0) d s) (lent k) (r .ensures) in (
       rows-more-at (p .1) at d s (i .1) (k .loop-test .taken) (p .2) (p .3) d-long s-long (i .0) made,
       omega arith,
       omega arith,

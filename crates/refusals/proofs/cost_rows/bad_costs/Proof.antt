@@ -1,4 +1,4 @@
--- `refusals::cost::bad_costs` meets its contract. The loop's invariant: no cost before i is bad. The measure is what is left
+-- `refusals::cost_rows::bad_costs` meets its contract. The loop's invariant: no cost before i is bad. The measure is what is left
 -- of the costs. Assumes nothing.
 use mathlib.Core.Path.{_≡_, sym, _∙_}
 use mathlib.Core.Bool.{false}
@@ -8,8 +8,8 @@ use lib.ListN.{length, getD}
 use borrow.Author.Count.{below-more}
 use Rattle.rules.specs.Refusals.{bad-cost}
 use Rattle.rules.proofs.Refusals.{any-here, any-none}
-use Rattle.refusals.proofs.cost.bad_costs.Statement.{statement}
-use Rattle.refusals.proofs.cost.bad_costs.Tie as tie
+use Rattle.refusals.proofs.cost_rows.bad_costs.Statement.{statement}
+use Rattle.refusals.proofs.cost_rows.bad_costs.Tie as tie
 
 abbrev Inv-loop : tie.InvT-loop
 Inv-loop costs i₀ i = ((k : ℕ) → k < i → bad-cost (getD costs k 0) ≡ false) × (i ≤ length costs)

@@ -1,13 +1,14 @@
--- `refusals::picture::picture_refusal` meets its contract: each `return` is the first row of the table that holds. Assumes nothing.
+-- `refusals::picture_rows::picture_refusal` meets its contract: each `return` is the first row of the table that holds. Assumes nothing.
 use mathlib.Core.Path.{_≡_, sym, _∙_}
 use mathlib.Core.Bool.{true, false, cond}
 use native.Mathlib.Omega.{arith}
 use lib.ListN.{length}
+use Rattle.rules.specs.Limits.{kind-limit}
 use Rattle.rules.specs.Refusals.{answer, any, bad-sides, bad-kind, bad-weights, bad-buffers, bad-byte, no-bore, picture-rows}
 use Rattle.rules.proofs.Refusals.{holds-unless, sides-passes, kind-passes, kind-good}
 use borrow.Author.Needs.{needs}
-use Rattle.refusals.proofs.picture.picture_refusal.Statement.{statement}
-use Rattle.refusals.proofs.picture.picture_refusal.Tie as tie
+use Rattle.refusals.proofs.picture_rows.picture_refusal.Statement.{statement}
+use Rattle.refusals.proofs.picture_rows.picture_refusal.Tie as tie
 
 -- the ways back, from each test to the one before, and from the first to the start
 abbrev at-start : tie.Else1 → tie.Start
@@ -30,8 +31,8 @@ one : (c : tie.Else1) → bad-sides (at-start c .args .a .w) (at-start c .args .
 one c = sym (c .before .bad-sides .ensures) ∙ c .if1 .left
 
 -- nor row 2
-two : (c : tie.Else2) → bad-kind 3 (at-start (to-1 c) .args .a .kind) ≡ false
-two c = kind-good 3 (at-start (to-1 c) .args .a .kind) (c .if2 .left)
+two : (c : tie.Else2) → bad-kind kind-limit (at-start (to-1 c) .args .a .kind) ≡ false
+two c = kind-good kind-limit (at-start (to-1 c) .args .a .kind) (c .if2 .left)
 
 -- nor row 3
 three : (c : tie.Else3) → let a = at-start (to-1 (to-2 c)) .args .a in bad-weights (a .kind) (a .d1) (a .d2) ≡ false
@@ -64,7 +65,7 @@ returns-2 : tie.Need-returns-2
 returns-2 c =
     let first = c .before .before in
     let a = at-start first .args .a in
-    let above : bad-kind 3 (a .kind) ≡ true = holds-unless _ (λ e. omega (arith, kind-passes 3 (a .kind) e)) in
+    let above : bad-kind kind-limit (a .kind) ≡ true = holds-unless _ (λ e. omega (arith, kind-passes kind-limit (a .kind) e)) in
     rw (one first, above)
 
 bad-weights-requires : tie.Need-bad-weights-requires

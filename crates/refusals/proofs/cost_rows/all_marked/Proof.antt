@@ -1,4 +1,4 @@
--- `refusals::cost::all_marked` meets its contract. The loop's invariant: every cost before i is the mark. The measure is what is
+-- `refusals::cost_rows::all_marked` meets its contract. The loop's invariant: every cost before i is the mark. The measure is what is
 -- left of the costs. Assumes nothing.
 use mathlib.Core.Path.{_≡_, sym}
 use Prim.Native.Nat.{ℕ, _-_, _≤_, _<_}
@@ -8,8 +8,8 @@ use borrow.Author.Count.{below-more}
 use Rattle.rules.specs.Limits.{mark}
 use Rattle.rules.specs.Refusals.{all-marked}
 use Rattle.rules.proofs.Refusals.{holds-unless, unmarked-passes, unmarked-good}
-use Rattle.refusals.proofs.cost.all_marked.Statement.{statement}
-use Rattle.refusals.proofs.cost.all_marked.Tie as tie
+use Rattle.refusals.proofs.cost_rows.all_marked.Statement.{statement}
+use Rattle.refusals.proofs.cost_rows.all_marked.Tie as tie
 
 abbrev Inv-loop : tie.InvT-loop
 Inv-loop costs i₀ i = ((k : ℕ) → k < i → getD costs k 0 ≡ mark) × (i ≤ length costs)

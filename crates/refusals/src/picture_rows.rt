@@ -1,4 +1,5 @@
 // The rows of the picture entry.
+use rules::KIND_LIMIT;
 ghost use mathlib.Core.Path.{_≡_};
 ghost use Rattle.rules.specs.Refusals.{answer, picture-rows};
 
@@ -25,7 +26,7 @@ pub fn picture_refusal(
     if board_tests::bad_sides(a.w, a.h) {
         return 1;
     }
-    if 3 < a.kind {
+    if KIND_LIMIT < a.kind {
         return 2;
     }
     if board_tests::bad_weights(a.kind, a.d1, a.d2) {

@@ -1,4 +1,4 @@
--- `refusals::cost::bad_cost` meets its contract: a cost at most the limit is good, and above it only the mark is. Assumes
+-- `refusals::cost_rows::bad_cost` meets its contract: a cost at most the limit is good, and above it only the mark is. Assumes
 -- nothing.
 use mathlib.Core.Path.{sym}
 use mathlib.Core.Logic.{inl}
@@ -6,8 +6,8 @@ use borrow.Author.Tests.{lt-leb}
 use Rattle.rules.specs.Limits.{cost-limit}
 use Rattle.rules.specs.Refusals.{bad-cost}
 use Rattle.rules.proofs.Refusals.{cost-good}
-use Rattle.refusals.proofs.cost.bad_cost.Statement.{statement}
-use Rattle.refusals.proofs.cost.bad_cost.Tie as tie
+use Rattle.refusals.proofs.cost_rows.bad_cost.Statement.{statement}
+use Rattle.refusals.proofs.cost_rows.bad_cost.Tie as tie
 
 returns : tie.Need-returns
 returns c = sym (cost-good (c .before .args .cost) (inl (c .if1 .taken)))

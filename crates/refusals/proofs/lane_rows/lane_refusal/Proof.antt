@@ -1,4 +1,4 @@
--- `refusals::lane::lane_refusal` meets its contract: each `return` is the first row of the table that holds. Assumes nothing.
+-- `refusals::lane_rows::lane_refusal` meets its contract: each `return` is the first row of the table that holds. Assumes nothing.
 use mathlib.Core.Path.{_≡_, sym, _∙_}
 use mathlib.Core.Bool.{true, false, cond, _||_}
 use native.Mathlib.Omega.{arith}
@@ -7,8 +7,8 @@ use Rattle.rules.specs.Refusals.{answer, any, bad-sides, bad-buffers, bad-path,
 use Rattle.rules.proofs.Board.{cells-few}
 use Rattle.rules.proofs.Refusals.{holds-unless, sides-passes, path-passes, path-good, or-false, ends-passes, ends-good}
 use borrow.Author.Needs.{needs}
-use Rattle.refusals.proofs.lane.lane_refusal.Statement.{statement}
-use Rattle.refusals.proofs.lane.lane_refusal.Tie as tie
+use Rattle.refusals.proofs.lane_rows.lane_refusal.Statement.{statement}
+use Rattle.refusals.proofs.lane_rows.lane_refusal.Tie as tie
 
 -- the ways back, from each test to the one before, and from the first to the start
 abbrev at-start : tie.Else1 → tie.Start

@@ -1,4 +1,5 @@
 // The rows of the cost entry, with the two that only a cost picture can break.
+use rules::COST_KIND_LIMIT;
 use rules::COST_LIMIT;
 use rules::MARK;
 ghost use mathlib.Core.Path.{_≡_};
@@ -58,7 +59,7 @@ pub fn cost_refusal(
     if board_tests::bad_sides(w, h) {
         return 1;
     }
-    if 1 < kind {
+    if COST_KIND_LIMIT < kind {
         return 2;
     }
     let across = w as usize;

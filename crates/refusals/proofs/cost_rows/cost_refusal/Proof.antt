@@ -1,13 +1,14 @@
--- `refusals::cost::cost_refusal` meets its contract: each `return` is the first row of the table that holds. Assumes nothing.
+-- `refusals::cost_rows::cost_refusal` meets its contract: each `return` is the first row of the table that holds. Assumes nothing.
 use mathlib.Core.Path.{_≡_, sym, _∙_}
 use mathlib.Core.Bool.{true, false, cond}
 use native.Mathlib.Omega.{arith}
 use lib.ListN.{length}
+use Rattle.rules.specs.Limits.{cost-kind-limit}
 use Rattle.rules.specs.Refusals.{answer, any, bad-sides, bad-kind, bad-buffers, bad-cost, all-marked, cost-rows}
 use Rattle.rules.proofs.Refusals.{holds-unless, sides-passes, kind-passes, kind-good}
 use borrow.Author.Needs.{needs}
-use Rattle.refusals.proofs.cost.cost_refusal.Statement.{statement}
-use Rattle.refusals.proofs.cost.cost_refusal.Tie as tie
+use Rattle.refusals.proofs.cost_rows.cost_refusal.Statement.{statement}
+use Rattle.refusals.proofs.cost_rows.cost_refusal.Tie as tie
 
 -- the ways back, from each test to the one before, and from the first to the start
 abbrev at-start : tie.Else1 → tie.Start
@@ -24,8 +25,8 @@ one : (c : tie.Else1) → bad-sides (at-start c .args .w) (at-start c .args .h) 
 one c = sym (c .before .bad-sides .ensures) ∙ c .if1 .left
 
 -- nor row 2
-two : (c : tie.Else2) → bad-kind 1 (at-start (c .before) .args .kind) ≡ false
-two c = kind-good 1 (at-start (c .before) .args .kind) (c .if2 .left)
+two : (c : tie.Else2) → bad-kind cost-kind-limit (at-start (c .before) .args .kind) ≡ false
+two c = kind-good cost-kind-limit (at-start (c .before) .args .kind) (c .if2 .left)
 
 -- nor row 4
 four : (c : tie.Else3) → let a = at-start (to-2 c .before) .args in
@@ -53,7 +54,7 @@ returns c = rw (sym (c .before .bad-sides .ensures) ∙ c .if1 .taken)
 returns-2 : tie.Need-returns-2
 returns-2 c =
     let kind = at-start (c .before) .args .kind in
-    let above : bad-kind 1 kind ≡ true = holds-unless _ (λ e. omega (arith, kind-passes 1 kind e)) in
+    let above : bad-kind cost-kind-limit kind ≡ true = holds-unless _ (λ e. omega (arith, kind-passes cost-kind-limit kind e)) in
     rw (one (c .before), above)
 
 bad-buffers-requires : tie.Need-bad-buffers-requires

@@ -1,0 +1,49 @@
+-- `line_check::try_line` meets its contract: the filled values are a line, and the work words have room for it. Assumes
+-- nothing.
+use mathlib.Core.Path.{_∙_, sym, ap₂}
+use Prim.Native.Nat.{_+_}
+use borrow.Author.Needs.{needs}
+use Rattle.line_check.proofs.try_line.Statement.{statement}
+use Rattle.line_check.proofs.try_line.Tie as tie
+
+fill-requires : tie.Need-fill-requires
+fill-requires c κs = search needs
+
+winners-of-requires : tie.Need-winners-of-requires
+winners-of-requires c κs =
+    let f = c .before .before .before .before .before in
+    let p = f .before .before .before .before .before .before .pre in
+    let long = sym (f .fill .kept .1 .0) in (
+      record {
+        gauged = record { parts = p .0; line = f .fill .ensures };
+        room = p .3 ∙ ap₂ _+_ long long;
+      },
+      p .4 ∙ long,
+    )
+
+wrong-places-requires : tie.Need-wrong-places-requires
+wrong-places-requires c κs = search needs
+
+same-length : tie.Need-same-length
+same-length c = search needs
+
+same-length-2 : tie.Need-same-length-2
+same-length-2 c = search needs
+
+same-length-3 : tie.Need-same-length-3
+same-length-3 c = search needs
+
+returns : tie.Need-returns
+returns c = search needs
+
+pub try-line-spec : {M : Type 1} → statement M
+try-line-spec =
+    tie.close
+    (tie.spec
+    fill-requires
+    winners-of-requires
+    wrong-places-requires
+    same-length
+    same-length-2
+    same-length-3
+    returns)

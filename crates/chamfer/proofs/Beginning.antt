@@ -15,8 +15,9 @@ use Rattle.rules.specs.Accepted.{Somewhere}
 use Rattle.rules.proofs.Table.{Walk, start, least}
 use Rattle.chamfer_turn.specs.declared.Board.{Board}
 use Rattle.chamfer_turn.specs.Neighbours.{far, Ruled, Words, On, word}
-use Rattle.chamfer.specs.Scans.{Bore, Held, Bounded, first-word, Begun}
+use Rattle.chamfer.specs.Scans.{first-word, Begun}
 use Rattle.chamfer_turn.proofs.Cells.{has-word}
+use Rattle.chamfer.proofs.Bounds.{Bore, Held, Bounded}
 
 -- no closed form within the sides reaches `far`
 below-far : {d1 d2 dx dy : ℕ} → Weights d1 d2 → dx ≤ side-limit → dy ≤ side-limit → chamfer d1 d2 dx dy ≤ far

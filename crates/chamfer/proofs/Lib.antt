@@ -1,4 +1,7 @@
+pub mod Order
+pub mod Settling
+pub mod Bounds
 pub mod Nearer
-pub mod Sweeps
+pub mod Bringing
 pub mod Beginning
 pub mod Ending

@@ -1,20 +1,20 @@
 -- One step towards a bore. Each scan brings the word of a bore to more cells. To such a cell the word had come before
--- the scan, or one of the scan's four steps leads from it to a cell that the scan did earlier, to which the word
--- comes too, and from which the closed form is less by just the weight of that step: a slanted step where both
--- differences are above 0, else a straight step in the direction of the larger one. Assumes nothing.
+-- the scan, or one of the scan's four steps leads from it to a cell to which the word comes too, and from which the
+-- closed form is less by just the weight of that step: a slanted step where both differences are above 0, else a straight
+-- step in the direction of the larger one. Assumes nothing.
 use mathlib.Core.Path.{_≡_, refl, ap}
 use mathlib.Core.Logic.{_⊎_, inl, inr}
 use Prim.Native.Nat.{ℕ, zero, suc, _+_, _-_, _*_, _≤_, _<_, min, max}
 use native.Mathlib.Decide.{decLe, decLt}
 use native.Mathlib.Omega.{arith}
 use lib.IntN.{pos, _+ℤ_}
-use Rattle.rules.specs.Board.{cell, away}
+use Rattle.rules.specs.Board.{away}
 use Rattle.rules.specs.Measures.{chamfer}
 use Rattle.rules.specs.Table.{weight}
 use Rattle.chamfer_turn.specs.declared.Board.{Board}
 use Rattle.chamfer_turn.specs.Neighbours.{On, printed, Neighbour}
-use Rattle.chamfer.specs.Scans.{apart, Come}
 use Rattle.chamfer_turn.proofs.Moves.{one-back, no-step}
+use Rattle.chamfer.proofs.Bounds.{apart, Come}
 
 -- a slanted step: both differences grow
 slanted : (d1 d2 dx dy : ℕ) → chamfer d1 d2 (suc dx) (suc dy) ≡ chamfer d1 d2 dx dy + d2
@@ -40,26 +40,14 @@ turned d1 d2 dx dy =
     let b : max dx dy - min dx dy ≡ max dy dx - min dy dx = omega arith in
     omega (arith, ap (λ n. d2 * n) a, ap (λ n. d1 * n) b)
 
--- the row above begins one row of w cells earlier
-row-above : (w y : ℕ) → 0 < y → (y - 1) * w + w ≡ y * w
-row-above w y l =
-    let e : y - 1 + 1 ≡ y = omega arith in
-    omega (arith, ap (λ n. n * w) e)
-
--- a scan comes to the cell with the number c before it comes to c′
-abbrev pub Before : ℕ → ℕ → ℕ → Type 0
-Before zero c c′ = c < c′
-Before (suc n) c c′ = c′ < c
-
--- A step of the scan from (x, y) towards the bore (i, j): by one of its steps, to a cell (x′, y′) that it did earlier
--- and to which the bore's word comes too, with the closed form less by the step's weight.
+-- A step of the scan from (x, y) towards the bore (i, j): by one of its steps, to a cell (x′, y′) to which the bore's
+-- word comes too, with the closed form less by the step's weight.
 pub record Nearer (b : Board) (scan i j x y : ℕ) : Type 0 where
   pub k : ℕ
   pub x′ : ℕ
   pub y′ : ℕ
   pub own : (4 * scan ≤ k) × (k < 4 * scan + 4)
   pub neighbour : Neighbour b k x y x′ y′
-  pub earlier : Before scan (cell (b .w) x′ y′) (cell (b .w) x y)
   pub comes : Come (suc scan) i j x′ y′
   pub less : apart b x′ y′ i j + weight (b .d1) (b .d2) (printed k .2) ≤ apart b x y i j
 
@@ -85,7 +73,7 @@ module _ (b : Board) (i j x y : ℕ) where
       → pos x′ ≡ pos x +ℤ printed k .1
       → pos y′ ≡ pos y +ℤ printed k .0
       → (4 * scan ≤ k) × (k < 4 * scan + 4)
-      × On b x′ y′ × Before scan (cell (b .w) x′ y′) (cell (b .w) x y) × Come (suc scan) i j x′ y′
+      × On b x′ y′ × Come (suc scan) i j x′ y′
       → apart b x′ y′ i j + weight (b .d1) (b .d2) (printed k .2) ≤ apart b x y i j
       → Nearer b scan i j x y
   step-to scan k x′ y′ e f p l =
@@ -95,8 +83,7 @@ module _ (b : Board) (i j x y : ℕ) where
         y′ = y′;
         own = (p .0, p .1);
         neighbour = record { leads = record { across = e; down = f }; on-board = p .2 };
-        earlier = p .3;
-        comes = p .4;
+        comes = p .3;
         less = l;
       }
 
@@ -113,17 +100,14 @@ module _ (b : Board) (i j x y : ℕ) where
             (step-to 0 3 (x - 1) y (one-back x (omega arith)) (no-step y) (omega arith)
             (by-across (x - 1) (omega arith) (omega arith)))
         go (yes below) (yes right) q =
-            let r = row-above (b .w) y (omega arith) in
             inr
             (step-to 0 0 (x - 1) (y - 1) (one-back x (omega arith)) (one-back y (omega arith)) (omega arith)
             (by-slanted (x - 1) (y - 1) (omega arith) (omega arith)))
         go (yes below) (no p) (no q) =
-            let r = row-above (b .w) y (omega arith) in
             inr
             (step-to 0 1 x (y - 1) (no-step x) (one-back y (omega arith)) (omega arith)
             (by-down (y - 1) (omega arith) (omega arith)))
         go (yes below) (no p) (yes left) =
-            let r = row-above (b .w) y (omega arith) in
             inr
             (step-to 0 2 (x + 1) (y - 1) refl (one-back y (omega arith)) (omega arith)
             (by-slanted (x + 1) (y - 1) (omega arith) (omega arith)))

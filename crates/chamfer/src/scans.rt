@@ -7,7 +7,7 @@ ghost use lib.ListN.{length};
 ghost use Rattle.rules.specs.Board.{cell, Bored};
 ghost use Rattle.rules.specs.Accepted.{Somewhere};
 ghost use Rattle.chamfer_turn.specs.Neighbours.{Ruled, Words};
-ghost use Rattle.chamfer.specs.Scans.{Bounded, Scan, Advanced, first-word, Begun, forward-scan, backward-scan};
+ghost use Rattle.chamfer.specs.Scans.{half, whole, Settled, Scan, first-word, Begun, Scanned};
 
 // "b(i,j) = ∞": a word above every true one, to which a weight can be added.
 const FAR: u32 = 1_073_741_824;
@@ -32,7 +32,7 @@ fn begin(picture: &[u8], words: &mut [u32])
 // One row of the forward scan, from the left.
 fn forward_row(b: Board, words: &mut [u32], y: usize)
     requires { ⌜ Ruled b × Words b (now words) × (y < b .h) ⌝ }
-    ensures { λ _. ⌜ Advanced b forward-scan (cell (b .w) 0 y) (cell (b .w) 0 (y + 1))
+    ensures { λ _. ⌜ Settled b 0 half (cell (b .w) 0 y) (cell (b .w) 0 (y + 1))
         (now (words .entry)) (now (words .exit)) ⌝ }
 {
     let w = b.w;
@@ -44,7 +44,7 @@ fn forward_row(b: Board, words: &mut [u32], y: usize)
 // The forward scan, from the top row down.
 fn forward(b: Board, words: &mut [u32])
     requires { ⌜ Ruled b × Words b (now words) ⌝ }
-    ensures { λ _. ⌜ Scan b forward-scan (now (words .entry)) (now (words .exit)) ⌝ }
+    ensures { λ _. ⌜ Scan b 0 half (now (words .entry)) (now (words .exit)) ⌝ }
 {
     let h = b.h;
     for y in 0..h {
@@ -55,7 +55,7 @@ fn forward(b: Board, words: &mut [u32])
 // One row of the backward scan, from the right.
 fn backward_row(b: Board, words: &mut [u32], y: usize)
     requires { ⌜ Ruled b × Words b (now words) × (y < b .h) ⌝ }
-    ensures { λ _. ⌜ Advanced b backward-scan (cell (b .w) 0 (y + 1)) (cell (b .w) 0 y)
+    ensures { λ _. ⌜ Settled b half whole (cell (b .w) 0 y) (cell (b .w) 0 (y + 1))
         (now (words .entry)) (now (words .exit)) ⌝ }
 {
     let mut x = b.w;
@@ -68,7 +68,7 @@ fn backward_row(b: Board, words: &mut [u32], y: usize)
 // The backward scan, from the bottom row up.
 fn backward(b: Board, words: &mut [u32])
     requires { ⌜ Ruled b × Words b (now words) ⌝ }
-    ensures { λ _. ⌜ Scan b backward-scan (now (words .entry)) (now (words .exit)) ⌝ }
+    ensures { λ _. ⌜ Scan b half whole (now (words .entry)) (now (words .exit)) ⌝ }
 {
     let mut y = b.h;
     while 0 < y {
@@ -81,7 +81,8 @@ fn backward(b: Board, words: &mut [u32])
 pub fn map_words(b: Board, picture: &[u8], words: &mut [u32])
     requires { ⌜ Ruled b × (length (now picture) ≡ b .w * b .h) × (length (now words) ≡ b .w * b .h)
         × Somewhere (b .w) (b .h) (Bored (b .w) (now picture)) ⌝ }
-    ensures { λ _. ⌜ Bounded b (now (picture .entry)) (now (words .exit)) 2 ⌝ }
+    ensures { λ _. ⌜ Scanned (b .w) (b .h) (b .d1) (b .d2) (now (picture .entry))
+        (now (words .entry)) (now (words .exit)) ⌝ }
 {
     begin(picture, words);
     forward(b, words);

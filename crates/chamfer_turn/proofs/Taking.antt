@@ -71,7 +71,7 @@ module _ {b : Board} {x y k : ℕ} {s : Step} (is : s ≡ printed k) where
 
 module _ {b : Board} {words : List ℕ} {x y from : ℕ} where
   -- with no step yet a cell has its own word
-  pub own-word : Lowest b words x y from from (word b words x y)
+  pub own-word : {own : ℕ} → Lowest b words x y from from own own
   own-word = record { no-more = le-refl _; no-more-through = λ k x′ y′ f t n. absurd (omega arith); made = inl refl }
 
   -- what is offered by some steps is offered by more
@@ -89,8 +89,8 @@ module _ {b : Board} {words : List ℕ} {x y from : ℕ} where
       }
 
   -- one step more
-  pub one-more : {k best v : ℕ} → from ≤ k → Lowest b words x y from k best → Lesser b words x y k best v
-      → Lowest b words x y from (k + 1) v
+  pub one-more : {k own best v : ℕ} → from ≤ k → Lowest b words x y from k own best → Lesser b words x y k best v
+      → Lowest b words x y from (k + 1) own v
   one-more {k} f L R =
       record {
         no-more = omega (arith, L .no-more, R .no-more);

@@ -69,14 +69,15 @@ pub record Lesser (b : Board) (words : List ℕ) (x y k best v : ℕ) : Type 0 w
   pub no-more-through : (x′ y′ : ℕ) → Neighbour b k x y x′ y′ → v ≤ offer b words k x′ y′
   pub made : (v ≡ best) ⊎ Offered b words x y k (k + 1) v
 
--- v is the least of the word of (x, y) and of what its neighbours by the steps from .. to − 1 offer
-pub record Lowest (b : Board) (words : List ℕ) (x y from to v : ℕ) : Type 0 where
-  pub no-more : v ≤ word b words x y
+-- v is the least of `own` and of what the neighbours of (x, y) by the steps from .. to − 1 offer
+pub record Lowest (b : Board) (words : List ℕ) (x y from to own v : ℕ) : Type 0 where
+  pub no-more : v ≤ own
   pub no-more-through : (k x′ y′ : ℕ) → from ≤ k → k < to → Neighbour b k x y x′ y′ → v ≤ offer b words k x′ y′
-  pub made : (v ≡ word b words x y) ⊎ Offered b words x y from to v
+  pub made : (v ≡ own) ⊎ Offered b words x y from to v
 
--- the cell (x, y) has had its turn with those steps: it has the lowest word, and every other cell what it had
+-- the cell (x, y) has had its turn with those steps: it has the least of its own word and of what those neighbours offer,
+-- and every other cell what it had
 pub record CellTurned (b : Board) (x y from to : ℕ) (before after : List ℕ) : Type 0 where
   pub v : ℕ
-  pub lowest : Lowest b before x y from to v
+  pub lowest : Lowest b before x y from to (word b before x y) v
   pub stored : after ≡ set before (cell (b .w) x y) v

@@ -95,7 +95,7 @@ fn lesser(b: Board, words: &[u32], x: usize, y: usize, k: usize, best: u32) -> u
 // The least of the cell's own word and of what its neighbours by the steps from .. to − 1 offer.
 fn lowest(b: Board, words: &[u32], x: usize, y: usize, from: usize, to: usize) -> u32
     requires { ⌜ Ruled b × Words b (now words) × On b x y × (from ≤ to) × (to ≤ 8) ⌝ }
-    ensures { λ r. ⌜ Lowest b (now (words .entry)) x y from to r ⌝ }
+    ensures { λ r. ⌜ Lowest b (now (words .entry)) x y from to (word b (now (words .entry)) x y) r ⌝ }
 {
     let w = b.w;
     let mut best = words[y * w + x];

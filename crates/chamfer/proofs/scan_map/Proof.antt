@@ -1,6 +1,6 @@
 -- `chamfer::scan_map` meets its contract: the words that are lent on are the first w·h of the buffer, and the map is
 -- made in them. Assumes nothing.
-use mathlib.Core.Path.{sym, _∙_}
+use mathlib.Core.Path.{sym}
 use borrow.Author.Needs.{needs}
 use lib.Seq.{length-take-le}
 use Rattle.chamfer.proofs.Ending.{scanned}
@@ -28,7 +28,7 @@ returns : tie.Need-returns
 returns c =
     let s = c .before .before .before .before .before .before in
     let m = c .before .before .map-words in
-    scanned _ (s .args .distances .now) (m .ensures) (m .kept .1 .1 .0 ∙ length-take-le _ _ (s .pre .3)) (s .pre .3)
+    scanned (s .args .distances .now) (m .ensures) (length-take-le _ _ (s .pre .3)) (s .pre .3)
 
 pub scan-map-spec : {M : Type 1} → statement M
 scan-map-spec =

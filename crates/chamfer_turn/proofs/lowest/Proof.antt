@@ -5,14 +5,14 @@ use native.Mathlib.Nat.{le-refl, le-antisymm}
 use native.Mathlib.Omega.{arith}
 use lib.ListN.{length}
 use Rattle.rules.specs.Board.{cell}
-use Rattle.chamfer_turn.specs.Neighbours.{Lowest}
+use Rattle.chamfer_turn.specs.Neighbours.{word, Lowest}
 use Rattle.chamfer_turn.proofs.Cells.{has-word}
 use Rattle.chamfer_turn.proofs.Taking.{own-word, one-more}
 use Rattle.chamfer_turn.proofs.lowest.Statement.{statement}
 use Rattle.chamfer_turn.proofs.lowest.Tie as tie
 
 abbrev Inv-loop : tie.InvT-loop
-Inv-loop b words x y from to w best₀ k₀ best k = Lowest b words x y from k best × (from ≤ k) × (k ≤ to)
+Inv-loop b words x y from to w best₀ k₀ best k = Lowest b words x y from k (word b words x y) best × (from ≤ k) × (k ≤ to)
 
 abbrev μ-loop : tie.MeasureT-loop
 μ-loop b words x y from to w best₀ k₀ best k = to - k

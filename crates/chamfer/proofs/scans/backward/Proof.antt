@@ -1,22 +1,23 @@
--- `chamfer::scans::backward` meets its contract. The loop's invariant: the scan has come from below the last row
--- back to the first cell of row `y`. The measure is `y`. Assumes nothing.
-use mathlib.Core.Path.{_≡_, ap}
-use Prim.Native.Nat.{_+_, _-_, _≤_}
+-- `chamfer::scans::backward` meets its contract. The loop's invariant: the rows from row `y` on are settled.
+-- The measure is `y`. Assumes nothing.
+use mathlib.Core.Path.{_≡_, refl, ap}
+use Prim.Native.Nat.{_+_, _-_, _*_, _≤_}
+use native.Mathlib.Nat.{le-antisymm, mul-le-mul-right}
 use native.Mathlib.Omega.{arith}
 use Rattle.rules.specs.Board.{cell}
-use Rattle.chamfer.specs.Scans.{Advanced, backward-scan}
-use Rattle.chamfer.proofs.Sweeps.{stay, and-then, backward-over}
+use Rattle.chamfer.specs.Scans.{half, whole, Settled}
+use Rattle.chamfer.proofs.Settling.{none-yet, ends-at, backward-on}
 use Rattle.chamfer.proofs.scans.backward.Statement.{statement}
 use Rattle.chamfer.proofs.scans.backward.Tie as tie
 
 abbrev Inv-loop : tie.InvT-loop
-Inv-loop b words₀ y₀ words y = (y ≤ b .h) × Advanced b backward-scan (cell (b .w) 0 (b .h)) (cell (b .w) 0 y) words₀ words
+Inv-loop b words₀ y₀ words y = (y ≤ b .h) × Settled b half whole (cell (b .w) 0 y) (b .w * b .h) words₀ words
 
 abbrev μ-loop : tie.MeasureT-loop
 μ-loop b words₀ y₀ words y = y
 
 loop-holds : tie.Need-loop-holds Inv-loop μ-loop
-loop-holds c = (omega arith, stay (c .before .pre .1))
+loop-holds c = (omega arith, none-yet (omega arith) (c .before .pre .1))
 
 sub-y : tie.Need-sub-y Inv-loop μ-loop
 sub-y c = omega arith
@@ -32,7 +33,13 @@ loop-again : tie.Need-loop-again Inv-loop μ-loop
 loop-again c =
     let loop = c .before .before .before .before .before .loop in
     let next : loop .y ≡ loop .y - 1 + 1 = omega arith in
-    (omega arith, and-then (loop .inv .1) (ap (cell _ 0) next) (c .before .before .backward-row .ensures))
+    let w = c .before .before .before .before .before .before .before .args .b .w in
+    let above = ap (λ n. n * w) next in
+    let below = mul-le-mul-right w (loop .inv .0) in (
+      omega arith,
+      backward-on (omega arith) (omega arith) (loop .inv .1)
+          (ends-at (c .before .before .backward-row .ensures) refl (ap (cell w 0) next)),
+    )
 
 same-length : tie.Need-same-length Inv-loop μ-loop
 same-length c = cc (c .before .loop .inv .1 .words .one-each, c .before .before .before .pre .1 .one-each)
@@ -40,7 +47,8 @@ same-length c = cc (c .before .loop .inv .1 .words .one-each, c .before .before 
 returns : tie.Need-returns Inv-loop μ-loop
 returns c =
     let i = c .before .loop .inv in
-    backward-over (i .1) (omega arith)
+    let first = le-antisymm (c .loop-test .left) (omega arith) in
+    ends-at (i .1) (omega (arith, ap (λ n. n * c .before .before .before .args .b .w) first)) refl
 
 pub backward-spec : {M : Type 1} → statement M
 backward-spec =

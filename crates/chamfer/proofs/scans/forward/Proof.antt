@@ -1,22 +1,23 @@
--- `chamfer::scans::forward` meets its contract. The loop's invariant: the scan has come from the first cell to the
--- first of row `y`. The measure is what is left of the rows. Assumes nothing.
-use mathlib.Core.Path.{refl}
-use Prim.Native.Nat.{_-_, _≤_}
+-- `chamfer::scans::forward` meets its contract. The loop's invariant: the rows before row `y` are settled.
+-- The measure is what is left of the rows. Assumes nothing.
+use mathlib.Core.Path.{refl, ap}
+use Prim.Native.Nat.{_-_, _*_, _≤_}
+use native.Mathlib.Nat.{le-antisymm}
 use native.Mathlib.Omega.{arith}
 use Rattle.rules.specs.Board.{cell}
-use Rattle.chamfer.specs.Scans.{Advanced, forward-scan}
-use Rattle.chamfer.proofs.Sweeps.{stay, and-then, forward-over}
+use Rattle.chamfer.specs.Scans.{half, Settled}
+use Rattle.chamfer.proofs.Settling.{none-yet, ends-at, forward-on}
 use Rattle.chamfer.proofs.scans.forward.Statement.{statement}
 use Rattle.chamfer.proofs.scans.forward.Tie as tie
 
 abbrev Inv-loop : tie.InvT-loop
-Inv-loop b words₀ h y₀ words y = (y ≤ b .h) × Advanced b forward-scan (cell (b .w) 0 0) (cell (b .w) 0 y) words₀ words
+Inv-loop b words₀ h y₀ words y = (y ≤ b .h) × Settled b 0 half 0 (cell (b .w) 0 y) words₀ words
 
 abbrev μ-loop : tie.MeasureT-loop
 μ-loop b words₀ h y₀ words y = b .h - y
 
 loop-holds : tie.Need-loop-holds Inv-loop μ-loop
-loop-holds c = (omega arith, stay (c .before .pre .1))
+loop-holds c = (omega arith, none-yet (omega arith) (c .before .pre .1))
 
 forward-row-requires : tie.Need-forward-row-requires Inv-loop μ-loop
 forward-row-requires c κs =
@@ -31,7 +32,7 @@ loop-less c = omega arith
 loop-again : tie.Need-loop-again Inv-loop μ-loop
 loop-again c =
     let loop = c .before .before .before .before .before .loop in
-    (omega arith, and-then (loop .inv .1) refl (c .before .before .forward-row .ensures))
+    (omega arith, forward-on (omega arith) (omega arith) (loop .inv .1) (c .before .before .forward-row .ensures))
 
 same-length : tie.Need-same-length Inv-loop μ-loop
 same-length c = cc (c .before .loop .inv .1 .words .one-each, c .before .before .before .pre .1 .one-each)
@@ -39,7 +40,8 @@ same-length c = cc (c .before .loop .inv .1 .words .one-each, c .before .before 
 returns : tie.Need-returns Inv-loop μ-loop
 returns c =
     let i = c .before .loop .inv in
-    forward-over (i .1) (omega arith)
+    let last = le-antisymm (i .0) (c .loop-test .left) in
+    ends-at (i .1) refl (omega (arith, ap (λ n. n * c .before .before .before .args .b .w) last))
 
 pub forward-spec : {M : Type 1} → statement M
 forward-spec =

@@ -2,7 +2,11 @@
 -- Assumes nothing.
 use mathlib.Core.Path.{_∙_}
 use borrow.Author.Needs.{needs}
+use native.Mathlib.Omega.{arith}
+use Rattle.chamfer.proofs.Order.{forward-scan, backward-scan}
 use Rattle.chamfer.proofs.Beginning.{first-words, begun}
+use Rattle.chamfer.proofs.Bringing.{brought}
+use Rattle.chamfer.proofs.Ending.{mapped}
 use Rattle.chamfer.proofs.scans.map_words.Statement.{statement}
 use Rattle.chamfer.proofs.scans.map_words.Tie as tie
 
@@ -27,7 +31,10 @@ returns c =
     let g = f .before .before .before .before in
     let s = g .before .before .before .before in
     let first = begun (g .begin .ensures) (g .begin .kept .1 .0 ∙ s .pre .2) (s .pre .0) (s .pre .3) in
-    c .before .before .backward .ensures .reaches _ (f .forward .ensures .reaches _ first)
+    let weights = s .pre .0 .weights in
+    let second = brought forward-scan (omega arith) weights (f .forward .ensures) first in
+    let last = c .before .before .backward .ensures in
+    mapped (brought backward-scan (omega arith) weights last second) (last .words .one-each) (s .pre .2)
 
 pub map-words-spec : {M : Type 1} → statement M
 map-words-spec =

@@ -1,5 +1,6 @@
 pub mod Order
 pub mod Settling
+pub mod Pinned
 pub mod Bounds
 pub mod Nearer
 pub mod Bringing

@@ -30,11 +30,11 @@ static uint32_t scratch[OLV_SCRATCH_COUNT(WIDTH, HEIGHT)];
 /* The count of an array's elements. */
 #define COUNT(array) (sizeof(array) / sizeof((array)[0]))
 
-/* Asks for the kind 0 map of the picture on a board that is said to have this width. */
+/* Asks for the map of squared distances on a board that is said to have this width. */
 static uint32_t ask_map(uint32_t width)
 {
-    return olv_map(width, HEIGHT, 0, 0, 0, picture, CELLS, distances, COUNT(distances), sites, COUNT(sites), scratch,
-                   COUNT(scratch));
+    return olv_map(width, HEIGHT, OLV_EUCLID, 0, 0, picture, CELLS, distances, COUNT(distances), sites, COUNT(sites),
+                   scratch, COUNT(scratch));
 }
 
 /* Draws the board, one character a cell, with `mark` on the cells where `marked` is 1 and # on the bored ones. */
@@ -49,7 +49,7 @@ static void draw(const uint8_t *marked, char mark)
 /* The map: the board as it is, then the words of its cells. */
 static int show_map(void)
 {
-    if (ask_map(WIDTH) != 0) {
+    if (ask_map(WIDTH) != OLV_ACCEPTED) {
         return 0;
     }
     puts("the board, # bored:");
@@ -67,7 +67,7 @@ static int show_clear(void)
     const olv_setting setting = {8.0f, 10.0f};
     uint8_t clear[CELLS];
 
-    if (olv_clear(setting, distances, CELLS, clear, CELLS) != 0) {
+    if (olv_clear(setting, distances, CELLS, clear, CELLS) != OLV_ACCEPTED) {
         return 0;
     }
     puts("\nat a pitch of 8 mm, c where a radius of 10 mm is clear:");
@@ -85,7 +85,7 @@ static int show_lane(void)
     uint8_t on_lane[CELLS] = {0};
 
     if (olv_lane(WIDTH, HEIGHT, picture, CELLS, FROM, TO, distances, COUNT(distances), sites, COUNT(sites), scratch,
-                 COUNT(scratch), path, COUNT(path), &width, &cells) != 0) {
+                 COUNT(scratch), path, COUNT(path), &width, &cells) != OLV_ACCEPTED) {
         return 0;
     }
     if (width != 1 || cells != COUNT(expected) || memcmp(path, expected, sizeof expected) != 0) {
@@ -104,10 +104,11 @@ static int show_lane(void)
 /* A refusal: its number alone. */
 static int show_refusal(void)
 {
-    uint32_t refused = ask_map(513);
+    const uint32_t width = OLV_SIDE_LIMIT + 1;
+    const uint32_t refused = ask_map(width);
 
-    printf("\na width of 513: refused %" PRIu32 "\n", refused);
-    return refused == 1;
+    printf("\na width of %" PRIu32 ": refused %" PRIu32 "\n", width, refused);
+    return refused == OLV_REFUSED_SIDE;
 }
 
 int main(void)

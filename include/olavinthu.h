@@ -1,29 +1,22 @@
 /*
- * Olavinthu: clearance maps for chest boards, from the proved archive libolavinthu.a.
+ * Olavinthu: exact distance transforms (Euclid, Manhattan, chessboard, chamfer) with the nearest site of each cell, cost
+ * maps, clear maps and widest lanes of chest boards, from the proved archive libolavinthu.a.
  *
- * A board has w columns and h rows, each from 1 to 512. Cell (x, y), x to the right and y downward, has the number
- * y * w + x. A picture has one byte a cell, 1 bored and 0 sound.
+ * A board has w columns and h rows, each from 1 to OLV_SIDE_LIMIT. Cell (x, y), x to the right and y downward, has the
+ * number y * w + x. A picture has one byte a cell, 1 bored and 0 sound.
  *
- * Every function answers 0 where it accepts, and otherwise the number of its refusal. Any number may be passed: each
- * function tests what it is given, in rising order of the refusals listed with it, and the first that holds is the
- * answer. A refusal writes nothing, the out-words included.
+ * Every function answers OLV_ACCEPTED where it accepts, and otherwise the number of its refusal. Any number may be
+ * passed: each function tests what it is given, in rising order of the refusals listed with it, and the first that holds
+ * is the answer. A refusal writes nothing, the out-words included.
  *
  * A list is a pointer followed by the count of its elements; a null pointer with the count 0 is allowed. What a list
  * cannot say itself is left to the caller: a pointer points to as many elements as its count says, out-pointers are
  * valid, and the lists and out-words of one call do not overlap. On acceptance, elements beyond the counts named below
  * are untouched, and const lists are never changed.
  *
- * The refusals:
- *
- *   1  w or h is 0 or above 512
- *   2  no such kind
- *   3  kind 3, and the weights break 1 <= d1 <= 255, d1 <= d2 <= 2 * d1
- *   4  a list with a count that does not fit
- *   5  a picture byte that is neither 0 nor 1; a cost that is neither at most 1,000,000 nor OLV_MARK
- *   6  no cell is bored; every cost is OLV_MARK
- *   7  an end of a lane is w * h or more
- *   8  the pitch or the radius is bad
- *   9  a changeover with i >= u, u > 511, or a value above 2,000,000
+ * There is no state: nothing is allocated, nothing is kept from one call to the next, and no pointer is kept after the
+ * call. So any thread may call at any time, with lists and out-words of its own; const lists may be shared. A call takes
+ * at most OLV_STACK_BYTES of stack.
  */
 #ifndef OLAVINTHU_H
 #define OLAVINTHU_H
@@ -31,14 +24,44 @@
 #include <stddef.h>
 #include <stdint.h>
 
-/* Goes up when a name, an order or a meaning below changes. */
+/* Goes up when a name, an order or a meaning below changes. CHANGELOG.md says what each edition brought. */
 #define OLV_EDITION 1
+
+/* The kinds of distance, with dx and dy the absolute differences of the columns and of the rows. */
+#define OLV_EUCLID UINT32_C(0)     /* dx^2 + dy^2, squared and never rooted */
+#define OLV_MANHATTAN UINT32_C(1)  /* dx + dy */
+#define OLV_CHESSBOARD UINT32_C(2) /* the larger of dx and dy */
+#define OLV_CHAMFER UINT32_C(3)    /* d2 * min(dx, dy) + d1 * (the larger - the smaller), as two chamfer scans find it */
+
+/* What a function answers. */
+#define OLV_ACCEPTED UINT32_C(0)
+#define OLV_REFUSED_SIDE UINT32_C(1)       /* w or h is 0 or above OLV_SIDE_LIMIT */
+#define OLV_REFUSED_KIND UINT32_C(2)       /* no such kind for this map */
+#define OLV_REFUSED_WEIGHTS UINT32_C(3)    /* OLV_CHAMFER, and not 1 <= d1 <= OLV_WEIGHT_LIMIT, d1 <= d2 <= 2 * d1 */
+#define OLV_REFUSED_LENGTH UINT32_C(4)     /* a list with a count that does not fit */
+#define OLV_REFUSED_CONTENT UINT32_C(5)    /* a byte neither 0 nor 1; a cost above OLV_COST_LIMIT that is not OLV_MARK */
+#define OLV_REFUSED_EMPTY UINT32_C(6)      /* no cell is bored; every cost is OLV_MARK */
+#define OLV_REFUSED_OFF_BOARD UINT32_C(7)  /* an end of a lane is w * h or more */
+#define OLV_REFUSED_SETTING UINT32_C(8)    /* the pitch or the radius is bad */
+#define OLV_REFUSED_CHANGEOVER UINT32_C(9) /* i >= u, u above OLV_COLUMN_LIMIT, or a value above OLV_VALUE_LIMIT */
+
+/* The limits. Each is the greatest that is accepted. */
+#define OLV_SIDE_LIMIT UINT32_C(512)      /* a board's width or height; the least is 1 */
+#define OLV_COST_LIMIT UINT32_C(1000000)  /* a cost */
+#define OLV_WEIGHT_LIMIT UINT32_C(255)    /* the weight d1; the least is 1 */
+#define OLV_COLUMN_LIMIT UINT32_C(511)    /* a column of a changeover */
+#define OLV_VALUE_LIMIT UINT32_C(2000000) /* a value of a changeover */
+#define OLV_KNOB_LIMIT UINT32_C(4096)     /* a pitch or a radius, in 1/64 mm; the least is 1 */
+#define OLV_CLEAR_LIMIT UINT32_C(262144)  /* the cells of a clear map; the fewest are 1 */
 
 /* The word that stands for none: a cost that is no feature, a site that is not named, a path word past the lane. */
 #define OLV_MARK UINT32_C(4294967295)
 
 /* The fewest words that a map's scratch must have, as a size_t. */
 #define OLV_SCRATCH_COUNT(w, h) ((size_t)(w) * (h) + 2 * (size_t)(w) + 2 * (size_t)(h))
+
+/* The most stack that a call takes below its caller's frame, in bytes. Measured with room to spare, and not proved. */
+#define OLV_STACK_BYTES 8192
 
 #ifdef __cplusplus
 extern "C" {
@@ -56,15 +79,14 @@ typedef struct olv_setting {
 /*
  * The map of a picture: for each cell the least distance to a bored cell, and which cell that is.
  *
- *   kind  0: dx^2 + dy^2    1: dx + dy    2: the larger of dx and dy
- *         3: d2 * min(dx, dy) + d1 * (the larger - the smaller), as a chamfer scan counts its steps
- *   d1, d2     the weights; read for kind 3 only
+ *   kind       OLV_EUCLID, OLV_MANHATTAN, OLV_CHESSBOARD or OLV_CHAMFER
+ *   d1, d2     the weights; read for OLV_CHAMFER only
  *   picture    exactly w * h bytes
  *   distances  at least w * h words; the first w * h become the least distances
  *   sites      at least w * h words; the first w * h become the numbers of the cells at that distance: of several the
- *              one in the least column, in that column the one with the least dy, then in the least row. Kind 3 names
- *              no cell, and every word becomes OLV_MARK
- *   scratch    at least w * h + 2 * w + 2 * h words; that many become 0
+ *              one in the least column, in that column the one with the least dy, then in the least row. OLV_CHAMFER
+ *              names no cell, and every word becomes OLV_MARK
+ *   scratch    at least OLV_SCRATCH_COUNT(w, h) words; that many become 0
  *
  * Refusals: 1, 2 (kind above 3), 3, 4, 5, 6.
  */
@@ -78,12 +100,12 @@ uint32_t olv_map(uint32_t w, uint32_t h, uint32_t kind, uint32_t d1, uint32_t d2
  * The map of a cost picture: for each cell the least sum of distance and cost over all unmarked cells, and which cell
  * gives it.
  *
- *   kind       0 or 1, as for olv_map
- *   costs      exactly w * h words, each a cost of 0 to 1,000,000, or OLV_MARK for a cell that is no feature
+ *   kind       OLV_EUCLID or OLV_MANHATTAN
+ *   costs      exactly w * h words, each a cost of 0 to OLV_COST_LIMIT, or OLV_MARK for a cell that is no feature
  *   distances  at least w * h words; the first w * h become the least sums
  *   sites      at least w * h words; the first w * h become the numbers of the cells that give them: of several the one
  *              in the least column, then in the least row
- *   scratch    at least w * h + 2 * w + 2 * h words; that many become 0
+ *   scratch    at least OLV_SCRATCH_COUNT(w, h) words; that many become 0
  *
  * Refusals: 1, 2 (kind above 1), 4, 5, 6.
  */
@@ -97,15 +119,15 @@ uint32_t olv_cost_map(uint32_t w, uint32_t h, uint32_t kind,
  * Where one curve stops being the lower of two: *p becomes the greatest whole number with
  * (*p - i)^2 + a <= (*p - u)^2 + b, that is the floor of (u^2 - i^2 + b - a) / (2 * (u - i)). It may be negative.
  *
- *   i, u  columns, i < u <= 511
- *   a, b  values, each at most 2,000,000
+ *   i, u  columns, i < u <= OLV_COLUMN_LIMIT
+ *   a, b  values, each at most OLV_VALUE_LIMIT
  *
  * Refusals: 9.
  */
 uint32_t olv_changeover(uint32_t i, uint32_t u, uint32_t a, uint32_t b, int32_t *p);
 
 /*
- * Opens a setting: *a becomes the pitch and *b the radius, as whole numbers of 1/64 mm from 1 to 4,096.
+ * Opens a setting: *a becomes the pitch and *b the radius, as whole numbers of 1/64 mm from 1 to OLV_KNOB_LIMIT.
  *
  * Refusals: 8.
  */
@@ -115,10 +137,10 @@ uint32_t olv_open(olv_setting setting, uint32_t *a, uint32_t *b);
  * The clear map: each byte becomes 1 where its squared distance d leaves the radius clear, d * a^2 >= b^2 with the
  * whole numbers of olv_open, and else 0. Clearance is taken from cell centre to cell centre.
  *
- *   squares  1 to 262,144 words of any value, as kind 0 of olv_map gives them
+ *   squares  1 to OLV_CLEAR_LIMIT words of any value, as OLV_EUCLID of olv_map gives them
  *   clear    as many bytes; every one is written
  *
- * Refusals: 4 (counts unequal, 0 or above 262,144), 8.
+ * Refusals: 4 (counts unequal, 0 or above OLV_CLEAR_LIMIT), 8.
  */
 uint32_t olv_clear(olv_setting setting,
                    const uint32_t *squares, size_t squares_count,
@@ -126,12 +148,12 @@ uint32_t olv_clear(olv_setting setting,
 
 /*
  * The best lane between two cells. A lane goes from a cell to a cell that shares an edge with it; its width is the least
- * kind 0 distance on it. The best is the widest; of those the one with the fewest cells; of those the first, where
- * lanes are compared cell number by cell number. From a cell to itself it is that one cell.
+ * OLV_EUCLID distance on it, squared as that is. The best is the widest; of those the one with the fewest cells; of those
+ * the first, where lanes are compared cell number by cell number. From a cell to itself it is that one cell.
  *
  *   picture    exactly w * h bytes
  *   from, to   the numbers of the two end cells
- *   distances, sites, scratch  as for olv_map, and left as by a kind 0 map
+ *   distances, sites, scratch  as for olv_map, and left as by an OLV_EUCLID map
  *   path       at least w * h words; the first *cells become the lane, `from` first and `to` last, the rest of
  *              w * h OLV_MARK
  *   width      becomes the width

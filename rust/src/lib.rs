@@ -1,4 +1,5 @@
-//! Clearance maps from the proved archive `libolavinthu.a`, safe to call.
+//! Exact distance maps with nearest sites, and widest lanes, from the proved archive
+//! `libolavinthu.a`, safe to call.
 //!
 //! Every function takes lists of any length and numbers of any size; the archive tests them all.
 //! What it does not accept comes back as a [`Refusal`], and then no lent word has changed. On
@@ -23,12 +24,15 @@
 //! # Ok::<(), olavinthu::Refusal>(())
 //! ```
 
+mod limits;
 pub mod raw;
 mod refusal;
 
+pub use limits::*;
 pub use refusal::Refusal;
 
-/// The word that stands for "none": a cost that is no feature, a site that is not named.
+/// The word that stands for "none": a cost that is no feature, a site that is not named, a path word
+/// past the lane.
 pub const MARK: u32 = u32::MAX;
 
 /// The sides of a board. Cell (x, y) has the number y · width + x.
@@ -76,6 +80,15 @@ impl Measure {
     const fn without_weights(kind: u32) -> Measure {
         Measure { kind, d1: 0, d2: 0 }
     }
+}
+
+/// How a cost map measures. There is no other way: the archive takes these two kinds.
+#[derive(Clone, Copy, Debug, PartialEq, Eq)]
+pub enum CostKind {
+    /// dx² + dy², never rooted.
+    Euclid = 0,
+    /// dx + dy.
+    Manhattan = 1,
 }
 
 /// The lists that a map is made in.
@@ -151,9 +164,14 @@ pub fn map(
     on_board!(olv_map: board, measure.kind, measure.d1, measure.d2; picture; buffers)
 }
 
-/// Makes the map of a cost picture: each word a cost, or [`MARK`] for no feature. Kinds 0 and 1.
-pub fn cost_map(board: Board, kind: u32, costs: &[u32], buffers: Buffers) -> Result<(), Refusal> {
-    on_board!(olv_cost_map: board, kind; costs; buffers)
+/// Makes the map of a cost picture: each word a cost up to [`COST_LIMIT`], or [`MARK`] for no feature.
+pub fn cost_map(
+    board: Board,
+    kind: CostKind,
+    costs: &[u32],
+    buffers: Buffers,
+) -> Result<(), Refusal> {
+    on_board!(olv_cost_map: board, kind as u32; costs; buffers)
 }
 
 /// The greatest whole p with (p − i)² + a ≤ (p − u)² + b.

@@ -14,8 +14,9 @@ impl Refusal {
         self.number
     }
 
-    /// The answer of a C function: 0 is acceptance, every other number a refusal.
-    pub(crate) fn of(answer: u32) -> Result<(), Refusal> {
+    /// The answer of a C function, as [`raw`](crate::raw) gives it: 0 is acceptance, every other
+    /// number a refusal.
+    pub fn of(answer: u32) -> Result<(), Refusal> {
         match answer {
             0 => Ok(()),
             number => Err(Refusal { number }),

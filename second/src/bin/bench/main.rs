@@ -17,7 +17,7 @@ mod table;
 use boards::{Drawing, TURN};
 use contest::{times, Times, TURNS};
 use off_board::{Changeovers, Openings};
-use olavinthu::{Board, Measure};
+use olavinthu::{Board, CostKind, Measure};
 use on_boards::{ClearMaps, Lanes, Maps};
 use second::rules::limits::SIDE;
 use std::process::ExitCode;
@@ -35,8 +35,8 @@ const ON_BOARDS: [OnBoards; 8] = [
     ("`olv_map` 1 Manhattan", |board, drawing| maps(board, drawing, Measure::MANHATTAN)),
     ("`olv_map` 2 chessboard", |board, drawing| maps(board, drawing, Measure::CHESSBOARD)),
     ("`olv_map` 3 chamfer 3, 4", |board, drawing| maps(board, drawing, Measure::chamfer(3, 4))),
-    ("`olv_cost_map` 0 Euclid", |board, drawing| cost_maps(board, drawing, Measure::EUCLID)),
-    ("`olv_cost_map` 1 Manhattan", |board, drawing| cost_maps(board, drawing, Measure::MANHATTAN)),
+    ("`olv_cost_map` 0 Euclid", |board, drawing| cost_maps(board, drawing, CostKind::Euclid)),
+    ("`olv_cost_map` 1 Manhattan", |board, drawing| cost_maps(board, drawing, CostKind::Manhattan)),
     ("`olv_lane`", |board, drawing| times(&mut Lanes::new(board), &drawing.pictures(board))),
     ("`olv_clear`", clear_maps),
 ];
@@ -45,8 +45,8 @@ fn maps(board: Board, drawing: Drawing, measure: Measure) -> Result<Times, usize
     times(&mut Maps::of_pictures(board, measure), &drawing.pictures(board))
 }
 
-fn cost_maps(board: Board, drawing: Drawing, measure: Measure) -> Result<Times, usize> {
-    times(&mut Maps::of_costs(board, measure), &drawing.costs(board))
+fn cost_maps(board: Board, drawing: Drawing, kind: CostKind) -> Result<Times, usize> {
+    times(&mut Maps::of_costs(board, kind), &drawing.costs(board))
 }
 
 fn clear_maps(board: Board, drawing: Drawing) -> Result<Times, usize> {

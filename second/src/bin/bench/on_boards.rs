@@ -2,7 +2,7 @@
 
 use crate::contest::Contest;
 use crate::plain::{self, PlainLane, PlainMap};
-use olavinthu::{Board, Buffers, Lane, Measure, Refusal, Setting};
+use olavinthu::{Board, Buffers, CostKind, Lane, Measure, Refusal, Setting};
 
 /// The lists that the archive is lent for a map.
 struct Lent {
@@ -35,19 +35,19 @@ impl Lent {
     }
 }
 
-/// Maps of pictures, or of costs.
-pub struct Maps<P> {
-    measure: Measure,
+/// Maps of pictures by a measure, or of costs by a kind.
+pub struct Maps<P, A> {
+    asked: A,
     lent: Lent,
     plain: PlainMap,
-    our_map: fn(Board, Measure, &[P], Buffers) -> Result<(), Refusal>,
-    plain_map: fn(&mut PlainMap, u32, &[P]),
+    our_map: fn(Board, A, &[P], Buffers) -> Result<(), Refusal>,
+    plain_map: fn(&mut PlainMap, A, &[P]),
 }
 
-impl Maps<u8> {
-    pub fn of_pictures(board: Board, measure: Measure) -> Maps<u8> {
+impl Maps<u8, Measure> {
+    pub fn of_pictures(board: Board, measure: Measure) -> Maps<u8, Measure> {
         Maps {
-            measure,
+            asked: measure,
             lent: Lent::new(board),
             plain: PlainMap::new(board),
             our_map: olavinthu::map,
@@ -56,30 +56,28 @@ impl Maps<u8> {
     }
 }
 
-impl Maps<u32> {
-    pub fn of_costs(board: Board, measure: Measure) -> Maps<u32> {
+impl Maps<u32, CostKind> {
+    pub fn of_costs(board: Board, kind: CostKind) -> Maps<u32, CostKind> {
         Maps {
-            measure,
+            asked: kind,
             lent: Lent::new(board),
             plain: PlainMap::new(board),
-            our_map: |board, measure, costs, buffers| {
-                olavinthu::cost_map(board, measure.kind, costs, buffers)
-            },
+            our_map: olavinthu::cost_map,
             plain_map: PlainMap::cost_map,
         }
     }
 }
 
-impl<P> Contest for Maps<P> {
+impl<P, A: Copy> Contest for Maps<P, A> {
     type Input = Vec<P>;
 
     fn ours(&mut self, picture: &Vec<P>) {
-        let made = (self.our_map)(self.lent.board, self.measure, picture, self.lent.buffers());
+        let made = (self.our_map)(self.lent.board, self.asked, picture, self.lent.buffers());
         made.expect("the picture is good");
     }
 
     fn plain(&mut self, picture: &Vec<P>) {
-        (self.plain_map)(&mut self.plain, self.measure.kind, picture);
+        (self.plain_map)(&mut self.plain, self.asked, picture);
     }
 
     fn same(&self) -> bool {
@@ -144,7 +142,7 @@ impl ClearMaps {
     /// The squared distances that are asked about.
     pub fn squares(board: Board, picture: &[u8]) -> Vec<u32> {
         let mut map = PlainMap::new(board);
-        map.map(0, picture);
+        map.map(Measure::EUCLID, picture);
         map.distances
     }
 }

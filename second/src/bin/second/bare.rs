@@ -1,11 +1,11 @@
-//! What only the bare C functions show: that a refusal leaves the out-words alone, and that a null
-//! pointer with the count 0 is taken.
+//! What only the bare C functions show: that a refusal leaves the out-words alone, that a null
+//! pointer with the count 0 is taken, and what a kind that the wrapper's types rule out is answered.
 
 use crate::lent::rubbish;
 use crate::run::{Call, Run};
-use olavinthu::{raw, Buffers, Setting};
+use olavinthu::{raw, Buffers, Refusal, Setting};
 use second::generator::Generator;
-use second::rules::{ChangeoverCall, LaneCall};
+use second::rules::{ChangeoverCall, CostCall, LaneCall};
 use std::ptr::{null, null_mut};
 
 /// Makes a call that is refused, with rubbish in its two out-words, which must stay.
@@ -61,6 +61,27 @@ pub fn silent_lane(
             cells,
         )
     })
+}
+
+/// Asks for a cost map of any kind, such as there is none of.
+pub fn cost_map(call: &CostCall, buffers: Buffers) -> Result<(), Refusal> {
+    // SAFETY: each pointer stands with the length of its own slice.
+    let answer = unsafe {
+        raw::olv_cost_map(
+            call.board.width,
+            call.board.height,
+            call.asked.0,
+            call.picture.as_ptr(),
+            call.picture.len(),
+            buffers.distances.as_mut_ptr(),
+            buffers.distances.len(),
+            buffers.sites.as_mut_ptr(),
+            buffers.sites.len(),
+            buffers.scratch.as_mut_ptr(),
+            buffers.scratch.len(),
+        )
+    };
+    Refusal::of(answer)
 }
 
 /// A call whose lists are all null, and so too short: its name, and the function that makes it.

@@ -1,5 +1,6 @@
 //! Cost maps.
 
+use crate::bare;
 use crate::boards::{self, LARGEST};
 use crate::damage::{self, put, Damage};
 use crate::map_case::{hold_each, Asked, Look, MapCase};
@@ -13,7 +14,12 @@ impl Asked for CostCall {
     const NAME: &'static str = "cost map";
 
     fn ask(&self, buffers: Buffers) -> Result<(), Refusal> {
-        olavinthu::cost_map(self.board, self.asked.0, &self.picture, buffers)
+        let kind = match self.asked.0 {
+            0 => olavinthu::CostKind::Euclid,
+            1 => olavinthu::CostKind::Manhattan,
+            _ => return bare::cost_map(self, buffers),
+        };
+        olavinthu::cost_map(self.board, kind, &self.picture, buffers)
     }
 
     fn drawn(&self) -> String {

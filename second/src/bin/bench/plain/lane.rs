@@ -3,7 +3,7 @@
 //! flood.
 
 use super::maps::PlainMap;
-use olavinthu::Board;
+use olavinthu::{Board, Measure};
 
 /// The word of the frame around the board, which no lane enters.
 const FRAME: i32 = -1;
@@ -40,7 +40,7 @@ impl PlainLane {
     }
 
     pub fn lane(&mut self, picture: &[u8], from: u32, to: u32) {
-        self.map.map(0, picture);
+        self.map.map(Measure::EUCLID, picture);
         for (row, y) in self.map.distances.chunks(self.board_width).zip(1..) {
             let framed = &mut self.words[y * self.wide + 1..][..self.board_width];
             for (word, &distance) in framed.iter_mut().zip(row) {

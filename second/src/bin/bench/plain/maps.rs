@@ -4,7 +4,7 @@
 use super::chamfer::Framed;
 use super::line::Line;
 use super::metric::{Chessboard, Euclid, Manhattan, Metric, Parabola};
-use olavinthu::{Board, MARK};
+use olavinthu::{Board, CostKind, Measure, MARK};
 
 /// What a marked cell costs: more than any word of a map, and small enough to add a distance to.
 const FAR: i32 = 100_000_000;
@@ -40,8 +40,8 @@ impl PlainMap {
     }
 
     /// The map of a picture, by kind; kind 3 with the weights that 003 prefers.
-    pub fn map(&mut self, kind: u32, picture: &[u8]) {
-        match kind {
+    pub fn map(&mut self, measure: Measure, picture: &[u8]) {
+        match measure.kind {
             0 => self.two_phases::<Euclid>(picture),
             1 => self.two_phases::<Manhattan>(picture),
             2 => self.two_phases::<Chessboard>(picture),
@@ -52,11 +52,11 @@ impl PlainMap {
         }
     }
 
-    /// The map of a cost picture, kind 0 or 1: 001's transform of each column, then of each row.
-    pub fn cost_map(&mut self, kind: u32, costs: &[u32]) {
+    /// The map of a cost picture: 001's transform of each column, then of each row.
+    pub fn cost_map(&mut self, kind: CostKind, costs: &[u32]) {
         match kind {
-            0 => self.two_transforms::<Parabola>(costs),
-            _ => self.two_transforms::<Manhattan>(costs),
+            CostKind::Euclid => self.two_transforms::<Parabola>(costs),
+            CostKind::Manhattan => self.two_transforms::<Manhattan>(costs),
         }
     }
 

@@ -1,7 +1,7 @@
 /*
- * Holds every name of olavinthu.h against what the archive does: a limit is accepted and one past it refused, a kind gives
- * its own distances, a refusal answers a call that breaks its rule alone, the mark stands where it should, and no call
- * takes more stack than is said.
+ * Holds every name of olavinthu.h but the edition against what the archive does: a limit is accepted and one past it
+ * refused, a kind gives its own distances, a refusal answers a call that breaks its rule alone, the mark stands where it
+ * should, and no call takes more stack than is said.
  *
  * After `rt staticlib olavinthu`, from the repository's root:
  *

@@ -1,5 +1,6 @@
--- The two tests of the scaled value. A float from 1 to the limit is a positive fraction; it may be cut to a whole
--- number, which is again from 1 to the limit. A NaN and an infinity are no such float. Assumes nothing.
+-- The whole numbers that a knob can give, and the two tests of the scaled value. A float from 1 to the limit is a
+-- positive fraction; it may be cut to a whole number, which is again from 1 to the limit. A NaN and an infinity are no
+-- such float. Assumes nothing.
 use mathlib.Core.Path.{_≡_, sym, subst}
 use mathlib.Core.Bool.{true, false}
 use Prim.Native.Nat.{ℕ, _+_, _*_, _/_, _^_, _≤_, _<_}
@@ -13,7 +14,16 @@ use lib.Ieee.Exact.{HasValue}
 use lib.Ieee.Back.{round-whole}
 use lib.Ieee.Positive.{num, den, positive, own-value, positive-of-value, between, values-of-le}
 use Rattle.rules.specs.Limits.{knob-limit}
-use Rattle.knob.proofs.Words.{Whole}
+use Rattle.rules.specs.Knob.{Good}
+
+-- a whole number that a knob can give
+pub record Whole (k : ℕ) : Type 0 where
+  pub from : 1 ≤ k
+  pub to : k ≤ knob-limit
+
+-- what a word is good for is one
+pub good-whole : {word k : ℕ} → Good word k → Whole k
+good-whole g = record { from = g .from; to = g .to }
 
 -- a whole number that a knob can give is a float
 pub holds-whole : {k : ℕ} → Whole k → T (inFloat binary32 (pos k))

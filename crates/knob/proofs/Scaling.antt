@@ -1,19 +1,16 @@
--- Scaling by 64 and back is exact. A good value for k is the float k/64, and no other float is: its product by 64 is
--- the float k, whose product by 1/64 is the value again. So a value that comes back is good for the whole number
--- between, and a good value passes both tests and comes back. The constants are any floats of the values named.
--- Assumes nothing.
+-- Scaling by 64 and back is exact. The good value for k is the float k/64: its product by 64 is the float k, whose
+-- product by 1/64 is the value again. So a value that comes back is good for the whole number between, and a good value
+-- passes both tests and comes back. The constants are any floats of the values named. Assumes nothing.
 use mathlib.Core.Path.{_≡_, refl, sym, ap, _∙_, subst}
 use mathlib.Core.Bool.{true, false, true≢false, false≢true, and-eq-true-iff}
-use Prim.Native.Nat.{ℕ, _*_, _^_, _<_}
-use native.Mathlib.Nat.{lt-of-lt-of-le, mul-one, mul-assoc, mul-pos, eq-of-mul-eq-mul-right}
+use Prim.Native.Nat.{ℕ, _*_, _<_}
+use native.Mathlib.Nat.{mul-one, mul-pos, eq-of-mul-eq-mul-right}
 use native.Mathlib.Omega.{arith}
 use lib.IntN.{pos}
-use lib.Dec.{T, eqb, lit<, lit≤}
-use lib.Pow.{pow-mono, shl-lt}
-use lib.Ieee.{Float, nan, inf, fin, binary32, up, down, round, mul, ofInt, toUnsigned, le, eq, ne, fits, toBits, ofBits}
-use lib.Ieee.Fits.{round-fits, down-pos}
-use lib.Ieee.Bits.{ofBits-toBits}
-use lib.Ieee.Exact.{HasValue, round-exact}
+use lib.Dec.{T, eqb, lit<}
+use lib.Ieee.{Float, nan, inf, fin, binary32, up, down, round, mul, ofInt, toUnsigned, le, eq, ne, fits, toBits}
+use lib.Ieee.Fits.{down-pos}
+use lib.Ieee.Exact.{HasValue}
 use lib.Ieee.Back.{unsigned-back}
 use lib.Ieee.Scale.{round-same}
 use lib.Ieee.Compare.{differs-from-itself}
@@ -22,21 +19,8 @@ use lib.Ieee.Positive.{positive-of-value, first-pos, mul-at}
 use borrow.Author.Tests.{eqb-true}
 use Rattle.rules.specs.Limits.{knob-limit}
 use Rattle.rules.specs.Knob.{Good}
-use Rattle.rules.proofs.Knob.{good-word-unique}
-use Rattle.knob.proofs.Words.{Whole, good-whole, good-of-value}
-use Rattle.knob.proofs.Range.{holds-whole, whole-value, top-whole}
-
--- the float k/64
-abbrev sixty-fourths : ℕ → Float
-sixty-fourths k = round binary32 false k 64
-
--- it is k/64 exactly
-exact : {k : ℕ} → Whole k → HasValue (sixty-fourths k) false k 64
-exact {k} w =
-    let small : k < 2 ^ 24 = omega (arith, w .to) in
-    round-exact binary32 false k 64 k 143 (lit< tt) small
-    (lt-of-lt-of-le (shl-lt 24 143 small) (pow-mono {i = 167} {j = 277} (lit≤ tt)))
-    (sym (mul-assoc k (2 ^ 143) 64))
+use Rattle.rules.proofs.KnobValue.{value-word, good-of-value, sixty-fourths, exact, good-float}
+use Rattle.knob.proofs.Range.{Whole, good-whole, holds-whole, whole-value, top-whole}
 
 -- the product of two positive values is rounded once
 product : (x y : Float) (a c b d : ℕ) → 0 < a → 0 < c → 0 < b → 0 < d → HasValue x false a c → HasValue y false b d
@@ -78,7 +62,8 @@ pub came-back : (v back : Float) {k : ℕ} → Whole k → eq (mul binary32 (ofI
     → HasValue back false 1 64 → Good (toBits binary32 v) k
 came-back v back {k} w t b =
     let equal : eq (sixty-fourths k) v ≡ true = rw (comes back w b) at t in
-    good-of-value v w (same-value (sixty-fourths k) v k 64 (w .from) (exact w) equal)
+    let h : HasValue v false k 64 = same-value (sixty-fourths k) v k 64 (w .from) (exact (w .to)) equal in
+    value-word v (good-of-value v (w .from) (w .to) h)
 
 -- a value that is good for k, and what becomes of it
 module _ (v scale : Float) (f : fits binary32 v ≡ true) (s : HasValue scale false 64 1) {k : ℕ}
@@ -87,19 +72,15 @@ module _ (v scale : Float) (f : fits binary32 v ≡ true) (s : HasValue scale fa
   whole : Whole k
   whole = good-whole g
 
-  -- it is the float k/64, which has the same word
-  good-is : v ≡ sixty-fourths k
-  good-is =
-      let x = sixty-fourths k in
-      let same : toBits binary32 v ≡ toBits binary32 x = good-word-unique g (good-of-value x whole (exact whole)) in
-      sym (ofBits-toBits binary32 v (subst T (sym f) tt)) ∙ ap (ofBits binary32) same
-      ∙ ofBits-toBits binary32 x (round-fits binary32 false k 64)
+  -- it is the float k/64
+  is-float : v ≡ sixty-fourths k
+  is-float = good-float v f g
 
   -- it goes to the float k
   goes : mul binary32 v scale ≡ ofInt binary32 (pos k)
   unfolding ofInt
   goes =
-      let h : HasValue v false k 64 = subst (λ (x : Float). HasValue x false k 64) (sym good-is) (exact whole) in
+      let h : HasValue v false k 64 = subst (λ (x : Float). HasValue x false k 64) (sym is-float) (exact (g .to)) in
       product v scale k 64 64 1 (g .from) (lit< tt) (lit< tt) (lit< tt) h s
       ∙ round-same binary32 false (k * 64) 64 k 1 (lit< tt) (lit< tt) (mul-one (k * 64))
 
@@ -131,5 +112,5 @@ module _ (v scale : Float) (f : fits binary32 v ≡ true) (s : HasValue scale fa
       unsigned-back binary32 64 k (holds-whole whole) (omega (arith, g .to)) .1 in
       let same : j ≡ k = cut ∙ ap (toUnsigned 64) goes ∙ uncut in
       let again : mul binary32 (ofInt binary32 (pos j)) back ≡ x = rw same (comes back whole b) in
-      let differs : eq x x ≡ false = cc (again, good-is, t) in
-      subst (λ (y : Float). HasValue y false k 64) (differs-from-itself x (rw differs tt)) (exact whole)
+      let differs : eq x x ≡ false = cc (again, is-float, t) in
+      subst (λ (y : Float). HasValue y false k 64) (differs-from-itself x (rw differs tt)) (exact (g .to))

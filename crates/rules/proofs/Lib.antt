@@ -6,6 +6,7 @@ pub mod TieRule
 pub mod Columns
 pub mod Changeover
 pub mod Knob
+pub mod KnobValue
 pub mod BenchFile
 pub mod Refusals
 pub mod Calls

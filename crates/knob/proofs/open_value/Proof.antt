@@ -5,8 +5,7 @@ use mathlib.Core.Path.{refl, sym, subst}
 use mathlib.Core.Logic.{⊎-elim}
 use native.Mathlib.Omega.{arith}
 use lib.Ieee.{ofBits}
-use Rattle.knob.proofs.Words.{Whole}
-use Rattle.knob.proofs.Range.{top-whole, holds-whole, in-range, cut-asks, cut-whole}
+use Rattle.knob.proofs.Range.{Whole, top-whole, holds-whole, in-range, cut-asks, cut-whole}
 use Rattle.knob.proofs.Scaling.{came-back, not-below, not-above, not-lost}
 use Rattle.knob.proofs.open_value.Statement.{statement}
 use Rattle.knob.proofs.open_value.Tie as tie

@@ -14,6 +14,7 @@ pub mod Lane
 pub mod LaneLabels
 pub mod LaneTest
 pub mod Measures
+pub mod StandIn
 pub mod Table
 pub mod Samples
 pub mod Pinned

@@ -3,8 +3,10 @@
 -- cost for costs. Assumes nothing.
 use mathlib.Core.Path.{_≡_}
 use mathlib.Core.Logic.{_≢_}
+use mathlib.Core.Bool.{cond}
 use mathlib.Core.List.{List}
 use Prim.Native.Nat.{ℕ, _+_, _≤_, _<_}
+use lib.Dec.{eqb}
 use Rattle.rules.specs.Limits.{mark}
 use Rattle.rules.specs.Board.{cell, away, cost-at}
 use Rattle.rules.specs.Measures.{measure}
@@ -37,3 +39,17 @@ pub record RowWord (w : ℕ) (combine : ℕ → ℕ → ℕ) (words value : ℕ 
   pub site-is : site ≡ cell w i (words i)
   pub least : (i′ : ℕ) → i′ < w → words i′ ≢ mark → d ≤ combine (away x i′) (value i′)
   pub least-column : (i′ : ℕ) → i′ < w → words i′ ≢ mark → combine (away x i′) (value i′) ≡ d → i ≤ i′
+
+-- "With a bore present, W + H may stand for an empty column's G": what a column of this word then counts as its G, as
+-- seen from row y
+abbrev pub stood-in : ℕ → ℕ → ℕ → ℕ → ℕ
+stood-in w h y word = cond (eqb word mark) (w + h) (away y word)
+
+-- and what a row makes of its words where so every column takes part: the clauses of `RowWord`, with none left out
+pub record FullRowWord (w : ℕ) (combine : ℕ → ℕ → ℕ) (words value : ℕ → ℕ) (x d site : ℕ) : Type 0 where
+  pub i : ℕ
+  pub column-in : i < w
+  pub word-is : d ≡ combine (away x i) (value i)
+  pub site-is : site ≡ cell w i (words i)
+  pub least : (i′ : ℕ) → i′ < w → d ≤ combine (away x i′) (value i′)
+  pub least-column : (i′ : ℕ) → i′ < w → combine (away x i′) (value i′) ≡ d → i ≤ i′

@@ -12,7 +12,7 @@ use native.Mathlib.Omega.{arith}
 use borrow.Author.Tests.{eq-eqb, ne-eqb}
 use Rattle.rules.specs.Limits.{mark}
 use Rattle.rules.specs.Board.{away, Bored}
-use Rattle.rules.specs.Measures.{chamfer-kind, measure}
+use Rattle.rules.specs.Measures.{HasParts, measure}
 use Rattle.rules.specs.Columns.{ColumnWord, RowWord, stood-in, FullRowWord}
 use Rattle.rules.proofs.Board.{away-min}
 use Rattle.rules.proofs.Measures.{stand-in}
@@ -21,8 +21,8 @@ use Rattle.rules.proofs.Measures.{stand-in}
 near : {n a b : ℕ} → a < n → b < n → away a b < n
 near {n} {a} {b} l k = omega (arith, away-min a b)
 
--- A row y of a picture, its column words, and a cell x of it, for a kind that names a cell.
-module _ (kind w h : ℕ) (picture : List ℕ) (x y : ℕ) (words : ℕ → ℕ) (named : kind < chamfer-kind) (x-in : x < w)
+-- A row y of a picture, its column words, and a cell x of it, for a kind that has parts.
+module _ (kind w h : ℕ) (picture : List ℕ) (x y : ℕ) (words : ℕ → ℕ) (parts : HasParts kind) (x-in : x < w)
     (y-in : y < h) (columns : (i : ℕ) → i < w → ColumnWord h (Bored w picture i) (away y) (words i)) where
   -- what |x − i| makes of the value of column i
   abbrev combine : ℕ → ℕ → ℕ
@@ -50,7 +50,7 @@ module _ (kind w h : ℕ) (picture : List ℕ) (x y : ℕ) (words : ℕ → ℕ)
       (λ (b : Bool). combine (away x i) (own i) <
       combine (away x i′) (measure kind .lift (cond b (w + h) (away y (words i′)))))
       (sym (eq-eqb (words i′) mark e))
-      (stand-in kind w h (away x i′) (away x i) (away y (words i)) named (near x-in l) dy)
+      (stand-in kind w h (away x i′) (away x i) (away y (words i)) parts (near x-in l) dy)
 
   -- what a row makes of its unmarked columns it makes of all of them
   to-full : {d site : ℕ} → RowWord w combine words own x d site → FullRowWord w combine words full x d site

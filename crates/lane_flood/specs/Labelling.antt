@@ -37,20 +37,25 @@ marks label (suc n) = min 1 (label n) + marks label n
 -- a flood under way. The labelled cells stand in the queue, in the order of their labels; the cells at the places before
 -- `head` have spread to their neighbours.
 pub record Flow (w n : ℕ) (word : ℕ → ℕ) (v to : ℕ) (label queue : ℕ → ℕ) (head tail : ℕ) : Type 0 where
+  -- the queue's places: the cell `to` first, and the head not past the tail
   pub begun : 0 < tail
   pub head-in : head ≤ tail
-  pub counted : tail ≡ marks label n
   pub origin : queue 0 ≡ to
-  pub start : label to ≡ 1
+  -- the cells in it are those that have a label, each once
   pub queue-in : (i : ℕ) → i < tail → queue i < n
   pub labelled : (i : ℕ) → i < tail → 0 < label (queue i)
   pub queued : (p : ℕ) → p < n → 0 < label p → (i : ℕ) × (i < tail) × (queue i ≡ p)
+  pub counted : tail ≡ marks label n
+  -- the labels along it never fall, and from the head on they rise by one at most
   pub rising : (i j : ℕ) → i ≤ j → j < tail → label (queue i) ≤ label (queue j)
   pub near : (i : ℕ) → i < tail → head < tail → label (queue i) ≤ label (queue head) + 1
   pub small : (i : ℕ) → i < tail → label (queue i) ≤ i + 1
+  -- what the labels keep to the end (`Labels`)
+  pub start : label to ≡ 1
   pub wide : (p : ℕ) → p < n → 0 < label p → v ≤ word p
   pub last : (p : ℕ) → p < n → label p ≡ 1 → p ≡ to
   pub lesser : Led w n label
+  -- what the cells before the head have done
   pub done : (i p : ℕ) → i < head → p < n → Neighbours w (queue i) p → v ≤ word p
       → (0 < label p) × (label p ≤ label (queue i) + 1)
 

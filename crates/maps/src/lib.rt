@@ -9,7 +9,7 @@ use refusals::picture_rows::picture_refusal;
 use rules::CHAMFER_KIND;
 use rules::MARK;
 use set_words::set_front;
-ghost use Prim.Native.Nat.{ℕ, _<_};
+ghost use Prim.Native.Nat.{ℕ};
 ghost use lib.ListN.{length};
 ghost use Rattle.rules.specs.Measures.{HasParts, chamfer-kind};
 ghost use Rattle.rules.specs.Accepted.{PictureAccepted};

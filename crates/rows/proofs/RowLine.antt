@@ -15,7 +15,6 @@ use lib.Seq.{ext-getD}
 use Rattle.rules.specs.Limits.{side-limit, mark, line-limit, lift-limit}
 use Rattle.rules.specs.Board.{cell, away}
 use Rattle.rules.specs.Measures.{measure}
-use Rattle.rules.specs.Columns.{RowWord}
 use Rattle.rules.proofs.Measures.{lawful}
 use Rattle.rules.proofs.Columns.{row-word-same}
 use Rattle.rules.proofs.Parts.{part-length, part-at, put-before}

@@ -7,7 +7,7 @@ use native.Mathlib.Omega.{arith}
 use lib.ListN.{length, getD, take, drop, length-drop, List·getD-append}
 use lib.Seq.{length-take-le, length-front, getD-take, getD-drop, getD-append-add, drop-drop, drop-at}
 use Rattle.rules.specs.Calls.{Beyond}
-use borrow.Rule.Slice.PartMut.{putMid, postOf, take-put, drop-put}
+use borrow.Rule.Slice.PartMut.{putMid, postOf, take-put}
 
 -- the length of the part from a to e
 pub part-length : {a e : ℕ} (s : List ℕ) → a ≤ e → e ≤ length s → length (take (e - a) (drop a s)) ≡ e - a

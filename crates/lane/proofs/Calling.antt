@@ -108,13 +108,17 @@ module _ (w h : ℕ) (picture : List ℕ) (from to : ℕ) where
           (buffers distances′ sites′ (labels ++ drop (w * h) scratch′)) (part ++ drop (w * h) path)
       lane-after =
           record {
-            word = at (take (w * h) distances′);
-            word-least =
-                λ x y in-row in-column.
-                subst (MapWord 0 0 0 w h picture x y)
-                (sym (getD-take (w * h) distances′ (cell w x y) 0 (cell-in in-row in-column))) (M .words x y in-row in-column);
-            best = rw cells-of (laid .best h refl);
-            width-is = rw cells-of (laid .width-is h refl);
+            found =
+                record {
+                  word = at (take (w * h) distances′);
+                  word-least =
+                      λ x y in-row in-column.
+                      subst (MapWord 0 0 0 w h picture x y)
+                      (sym (getD-take (w * h) distances′ (cell w x y) 0 (cell-in in-row in-column)))
+                      (M .words x y in-row in-column);
+                  best = rw cells-of (laid .best h refl);
+                  width-is = rw cells-of (laid .width-is h refl);
+                };
             cells-is = ap length cells-of ∙ length-take-le cells part (omega (arith, laid .cells-in, board-long));
             marked =
                 λ k l m. List·getD-append part (drop (w * h) path) 0 k (omega (arith, board-long)) ∙ laid .marked k l m;

@@ -139,11 +139,13 @@ lane-after-pinned : {w h : ℕ} {picture : List ℕ} {from to : ℕ} {before aft
     → LaneAfter w h picture from to before path broad′ cells′ after′ exit′
     → (broad ≡ broad′) × (cells ≡ cells′) × (after ≡ after′) × (exit ≡ exit′)
 lane-after-pinned {w} {h} {exit = exit} {exit′ = exit′} {cells = cells} {cells′ = cells′} p q =
-    let words : (c : ℕ) → c < w * h → p .word c ≡ q .word c =
-    each-cell w _ (λ x y l m. least-unique (p .word-least x y l m) (q .word-least x y l m)) in
-    let (lane, broad) = best-unique-words words (p .best) (q .best) in
+    let f = p .found in
+    let g = q .found in
+    let words : (c : ℕ) → c < w * h → f .word c ≡ g .word c =
+    each-cell w _ (λ x y l m. least-unique (f .word-least x y l m) (g .word-least x y l m)) in
+    let (lane, broad) = best-unique-words words (f .best) (g .best) in
     let same : cells ≡ cells′ = sym (p .cells-is) ∙ ap length lane ∙ q .cells-is in (
-      p .width-is ∙ broad ∙ sym (q .width-is),
+      f .width-is ∙ broad ∙ sym (g .width-is),
       same,
       picture-after-pinned (p .map-after) (q .map-after),
       lists-pinned (p .path-beyond) (q .path-beyond) (path lane same),
@@ -231,7 +233,7 @@ changeover-answer-pinned NoChangeover NoChangeover c e = refl
 pub cells-not-zero : {w h : ℕ} {picture : List ℕ} {from to : ℕ} {before after : Buffers} {path exit : List ℕ} {broad : ℕ}
     → LaneAfter w h picture from to before path broad 0 after exit → ⊥
 unfolding Lane
-cells-not-zero l = l .best .lane
+cells-not-zero l = l .found .best .lane
 
 -- the lane entry has one answer, and leaves the path and the buffers in one way
 pub lane-answer-pinned : {w h : ℕ} {picture : List ℕ} {from to : ℕ} {before after after′ : Buffers}

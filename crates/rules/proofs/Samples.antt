@@ -4,8 +4,9 @@
 -- The tests look at every cell of the board. A number d is the least word of the features if some feature has the word
 -- d and none a lesser one. A cell is the one that the tie rule takes if it is a feature and no feature's keys come
 -- before its own. Both are tested and proved once, over any test of features, and pictures put in bored cells, costs
--- unmarked ones. A changeover is compared with the floor, which is known to be the changeover. A lane's words are
--- tested to be the least words, and its cells by the labels of two floods. Assumes nothing.
+-- unmarked ones. A changeover is compared with the floor, which is known to be the changeover. What convinces of a lane
+-- is given here: the words of its board, which are tested to be the least words, and the labels of two floods, which
+-- tell whether its cells are the best lane. Assumes nothing.
 use mathlib.Core.Path.{_≡_, sym}
 use mathlib.Core.Logic.{_↔_, ⊎-elim}
 use mathlib.Core.Bool.{Bool, true, not, _&&_}
@@ -24,8 +25,9 @@ use Rattle.rules.specs.Tie.{MapWord, MapSite, CostMapWord, CostMapSite}
 use Rattle.rules.specs.Changeover.{Changeover, numerator, divisor, floor}
 use Rattle.rules.specs.Knob.{clear-byte}
 use Rattle.rules.specs.Refusals.{some}
+use Rattle.rules.specs.Lane.{WidestLane}
 use Rattle.rules.specs.Samples.{Sample, picture-cell, cost-distances, cost-sites, change, clear, lane}
-use Rattle.rules.specs.Samples.{LaneHolds, SampleHolds, starred, Shown}
+use Rattle.rules.specs.Samples.{SampleHolds, starred, Shown}
 use Rattle.rules.proofs.Board.{cell-of}
 use Rattle.rules.proofs.Order.{comes-before, comes-before-means, every, every-means}
 use Rattle.rules.proofs.TieRule.{first-is-site, cost-as-site}
@@ -182,64 +184,100 @@ changes-means i u a b p t =
     ≤ℤ-antisymm (leZ-yes (search parts)) (leZ-yes (search parts)) in
     rw e at (changeover-floor i u a b (ltb-yes (search parts)))
 
-module _ (w h : ℕ) (picture : List ℕ) (from to broad : ℕ) (cells words labels wider : List ℕ) where
+-- What convinces of a lane: the kind 0 word of each cell, and its label in a flood from the far end over the cells at
+-- least as wide as the lane, and in one over the wider cells.
+record Floods : Type 0 where
+  words : List ℕ
+  labels : List ℕ
+  wider : List ℕ
+
+abbrev floods : List ℕ → List ℕ → List ℕ → Floods
+floods words labels wider = record { words = words; labels = labels; wider = wider }
+
+module _ (w h : ℕ) (picture : List ℕ) (from to broad : ℕ) (cells : List ℕ) (f : Floods) where
   -- the word given for (x, y) is the map word there
   abbrev right : ℕ → ℕ → Bool
-  right x y = map-word w h 0 picture x y (getD words (cell w x y) 0)
+  right x y = map-word w h 0 picture x y (getD (f .words) (cell w x y) 0)
 
   -- the words are right, and by them the labels find the lane and its width
   abbrev goes : Bool
-  goes = everywhere w h right && lane-test w h words from to broad cells labels wider
+  goes = everywhere w h right && lane-test w h (f .words) from to broad cells (f .labels) (f .wider)
 
   -- where the test passes, the lane's sample holds
-  goes-means : T goes → LaneHolds w h picture from to broad cells
+  goes-means : T goes → WidestLane w h picture from to broad cells
   goes-means t =
       let each = everywhere-means w h right (search parts) in
-      let (best, is) = lane-test-sound w h words from to broad cells labels wider (search parts) in
+      let (best, is) = lane-test-sound w h (f .words) from to broad cells (f .labels) (f .wider) (search parts) in
       record {
-        word = λ c. getD words c 0;
-        word-least = λ x y l m. map-word-means w h 0 picture x y (getD words (cell w x y) 0) (each x y l m);
+        word = λ c. getD (f .words) c 0;
+        word-least = λ x y l m. map-word-means w h 0 picture x y (getD (f .words) (cell w x y) 0) (each x y l m);
         best = best;
         width-is = sym is;
       }
 
--- the test of a sample
-abbrev passes : Sample → Bool
-passes (picture-cell w h kind picture x y d site) =
+-- the floods of the first lane of a list of samples, and those of the others
+abbrev these : List Floods → Floods
+these [] = floods [] [] []
+these (f ∷ fs) = f
+
+abbrev others : List Floods → List Floods
+others [] = []
+others (f ∷ fs) = fs
+
+-- the test of a sample, given the floods of the lanes from it on
+abbrev passes : Sample → List Floods → Bool
+passes (picture-cell w h kind picture x y d site) fs =
     map-word w h kind picture x y d && map-site w h kind picture x y site
-passes (cost-distances w h kind costs words) =
+passes (cost-distances w h kind costs words) fs =
     everywhere w h (λ x y. cost-map-word w h kind costs x y (getD words (cell w x y) 0))
-passes (cost-sites w h kind costs sites) =
+passes (cost-sites w h kind costs sites) fs =
     everywhere w h (λ x y. cost-map-site w h kind costs x y (getD sites (cell w x y) 0))
-passes (change i u a b p) = changes i u a b p
-passes (clear a b d byte) = eqb (clear-byte a b d) byte
-passes (lane w h picture from to broad cells words labels wider) =
-    goes w h picture from to broad cells words labels wider
+passes (change i u a b p) fs = changes i u a b p
+passes (clear a b d byte) fs = eqb (clear-byte a b d) byte
+passes (lane w h picture from to broad cells) fs = goes w h picture from to broad cells (these fs)
 
 -- a sample that passes holds
-sound : (s : Sample) → T (passes s) → SampleHolds s
-sound (picture-cell w h kind picture x y d site) t =
+sound : (s : Sample) (fs : List Floods) → T (passes s fs) → SampleHolds s
+sound (picture-cell w h kind picture x y d site) fs t =
     (map-word-means w h kind picture x y d (search parts), map-site-means w h kind picture x y site (search parts))
-sound (cost-distances w h kind costs words) t = λ x y l m.
+sound (cost-distances w h kind costs words) fs t = λ x y l m.
     cost-map-word-means w h kind costs x y (getD words (cell w x y) 0) (everywhere-means w h _ t x y l m)
-sound (cost-sites w h kind costs sites) t = λ x y l m.
+sound (cost-sites w h kind costs sites) fs t = λ x y l m.
     cost-map-site-means w h kind costs x y (getD sites (cell w x y) 0) (everywhere-means w h _ t x y l m)
-sound (change i u a b p) t = changes-means i u a b p t
-sound (clear a b d byte) t = eqb-yes t
-sound (lane w h picture from to broad cells words labels wider) t =
-    goes-means w h picture from to broad cells words labels wider t
+sound (change i u a b p) fs t = changes-means i u a b p t
+sound (clear a b d byte) fs t = eqb-yes t
+sound (lane w h picture from to broad cells) fs t = goes-means w h picture from to broad cells (these fs) t
 
--- all samples of a list pass
-abbrev all-pass : List Sample → Bool
-all-pass [] = true
-all-pass (s ∷ ss) = passes s && all-pass ss
+-- the floods of the lanes after a sample
+abbrev after : Sample → List Floods → List Floods
+after (picture-cell w h kind picture x y d site) fs = fs
+after (cost-distances w h kind costs words) fs = fs
+after (cost-sites w h kind costs sites) fs = fs
+after (change i u a b p) fs = fs
+after (clear a b d byte) fs = fs
+after (lane w h picture from to broad cells) fs = others fs
+
+-- all samples of a list pass, given the floods of its lanes
+abbrev all-pass : List Sample → List Floods → Bool
+all-pass [] fs = true
+all-pass (s ∷ ss) fs = passes s fs && all-pass ss (after s fs)
 
 -- where all samples of a list pass, every one holds
-shown-by : (ss : List Sample) → T (all-pass ss) → Shown ss
-shown-by [] t = tt
-shown-by (s ∷ ss) t = (sound s (search parts), shown-by ss (search parts))
+shown-by : (ss : List Sample) (fs : List Floods) → T (all-pass ss fs) → Shown ss
+shown-by [] fs t = tt
+shown-by (s ∷ ss) fs t = (sound s fs (search parts), shown-by ss (after s fs) (search parts))
+
+-- the floods of the starred lanes
+abbrev starred-floods : List Floods
+starred-floods =
+    floods (2 ∷ 1 ∷ 2 ∷ 1 ∷ 0 ∷ 1 ∷ 2 ∷ 1 ∷ 2 ∷ []) (5 ∷ 4 ∷ 3 ∷ 4 ∷ 0 ∷ 2 ∷ 3 ∷ 2 ∷ 1 ∷ [])
+    (0 ∷ 0 ∷ 0 ∷ 0 ∷ 0 ∷ 0 ∷ 0 ∷ 0 ∷ 1 ∷ [])
+    ∷ floods (2 ∷ 1 ∷ 2 ∷ 1 ∷ 0 ∷ 1 ∷ 2 ∷ 1 ∷ 2 ∷ []) (1 ∷ 0 ∷ 0 ∷ 0 ∷ 0 ∷ 0 ∷ 0 ∷ 0 ∷ 0 ∷ [])
+    (0 ∷ 0 ∷ 0 ∷ 0 ∷ 0 ∷ 0 ∷ 0 ∷ 0 ∷ 0 ∷ [])
+    ∷ floods (4 ∷ 1 ∷ 0 ∷ 1 ∷ 4 ∷ []) (5 ∷ 4 ∷ 3 ∷ 2 ∷ 1 ∷ []) (0 ∷ 0 ∷ 0 ∷ 2 ∷ 1 ∷ [])
+    ∷ []
 
 -- every starred sample holds: all tests pass, once differences of columns and rows compute
 pub starred-shown : Shown starred
 unfolding away
-starred-shown = shown-by starred tt
+starred-shown = shown-by starred starred-floods tt

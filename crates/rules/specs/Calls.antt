@@ -14,7 +14,7 @@ use Rattle.rules.specs.Measures.{chamfer-kind}
 use Rattle.rules.specs.Tie.{MapWord, MapSite, CostMapWord, CostMapSite}
 use Rattle.rules.specs.Changeover.{Changeover}
 use Rattle.rules.specs.Knob.{Good, pitch-word, radius-word, clear-byte}
-use Rattle.rules.specs.Lane.{Best, width}
+use Rattle.rules.specs.Lane.{WidestLane}
 use Rattle.rules.specs.BenchFile.{bored-by, bores, Farthest, text}
 use Rattle.rules.specs.Refusals.{Row, answer, scratch-words, picture-rows, cost-rows, lane-rows, clear-rows, opening-rows, changeover-rows, file-rows}
 
@@ -79,12 +79,9 @@ CostCall w h kind costs before number after =
     number (after ≡ before) (MapAfter w h (CostMapWord kind w h costs) (CostMapSite kind w h costs) before after)
 
 -- "The first L path words hold it, the rest up to W·H the mark, path words beyond stay, and the other buffers are as
--- after a kind 0 map call.": `word` is demand 2's least distance of each cell, and no stored word
+-- after a kind 0 map call."
 pub record LaneAfter (w h : ℕ) (picture : List ℕ) (from to : ℕ) (before : Buffers) (path : List ℕ) (broad cells : ℕ) (after : Buffers) (path′ : List ℕ) : Type 0 where
-  pub word : ℕ → ℕ
-  pub word-least : (x y : ℕ) → x < w → y < h → MapWord 0 0 0 w h picture x y (word (cell w x y))
-  pub best : Best w h word from to (take cells path′)
-  pub width-is : broad ≡ width word (take cells path′)
+  pub found : WidestLane w h picture from to broad (take cells path′)
   pub cells-is : length (take cells path′) ≡ cells
   pub marked : (k : ℕ) → cells ≤ k → k < w * h → getD path′ k 0 ≡ mark
   pub path-beyond : Beyond (w * h) path path′

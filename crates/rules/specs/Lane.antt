@@ -1,11 +1,12 @@
--- "The lane", over any word that a cell has: neighbours, lanes, width and the order of lanes. A cell is its number.
--- Assumes nothing.
+-- "The lane", over any word that a cell has: neighbours, lanes, width and the order of lanes; then the widest lane of a
+-- picture. A cell is its number. Assumes nothing.
 use mathlib.Core.Path.{_≡_}
 use mathlib.Core.List.{List, [], _∷_}
 use Prim.Native.Nat.{ℕ, _+_, _*_, _≤_, _<_, min}
 use lib.ListN.{length}
-use Rattle.rules.specs.Board.{column, row, away}
+use Rattle.rules.specs.Board.{cell, column, row, away}
 use Rattle.rules.specs.Order.{Earlier}
+use Rattle.rules.specs.Tie.{MapWord}
 
 -- "Neighbours share an edge.": one step apart, along a row or along a column
 abbrev pub Neighbours : ℕ → ℕ → ℕ → Type 0
@@ -36,3 +37,11 @@ pub record Best (w h : ℕ) (word : ℕ → ℕ) (from to : ℕ) (cells : List �
       → length cells ≤ length other
   pub first : (other : List ℕ) → Lane w h from to other → width word other ≡ width word cells
       → length other ≡ length cells → Earlier other cells → ⊥
+
+-- "Asked of a picture and two cell numbers": the cells are the best lane by the kind 0 words, and the width is theirs.
+-- `word` is demand 2's least distance of each cell, and no stored word.
+pub record WidestLane (w h : ℕ) (picture : List ℕ) (from to broad : ℕ) (cells : List ℕ) : Type 0 where
+  pub word : ℕ → ℕ
+  pub word-least : (x y : ℕ) → x < w → y < h → MapWord 0 0 0 w h picture x y (word (cell w x y))
+  pub best : Best w h word from to cells
+  pub width-is : broad ≡ width word cells

@@ -10,7 +10,7 @@ use Rattle.rules.specs.Board.{cell}
 use Rattle.rules.specs.Tie.{MapWord, MapSite, CostMapWord, CostMapSite}
 use Rattle.rules.specs.Changeover.{Changeover}
 use Rattle.rules.specs.Knob.{clear-byte}
-use Rattle.rules.specs.Lane.{Best, width}
+use Rattle.rules.specs.Lane.{WidestLane}
 
 pub data Sample : Type 0 where
   -- W, H, kind, the picture; the cell's column and row, its distance and its site
@@ -23,16 +23,8 @@ pub data Sample : Type 0 where
   change : ℕ → ℕ → ℕ → ℕ → ℤ → Sample
   -- a, b, d; the clear map's byte
   clear : ℕ → ℕ → ℕ → ℕ → Sample
-  -- W, H, the picture, the two ends; the width and the cells. What convinces comes after: the kind 0 word of each cell,
-  -- and its label in a flood from the far end over the cells at least as wide, and in one over the wider cells.
-  lane : ℕ → ℕ → List ℕ → ℕ → ℕ → ℕ → List ℕ → List ℕ → List ℕ → List ℕ → Sample
-
--- a lane's sample holds: the cells are the best lane by the kind 0 words, and the width is theirs
-pub record LaneHolds (w h : ℕ) (picture : List ℕ) (from to broad : ℕ) (cells : List ℕ) : Type 0 where
-  pub word : ℕ → ℕ
-  pub word-least : (x y : ℕ) → x < w → y < h → MapWord 0 0 0 w h picture x y (word (cell w x y))
-  pub best : Best w h word from to cells
-  pub width-is : broad ≡ width word cells
+  -- W, H, the picture, the two ends; the width and the cells
+  lane : ℕ → ℕ → List ℕ → ℕ → ℕ → ℕ → List ℕ → Sample
 
 -- what a sample says of the rules
 abbrev pub SampleHolds : Sample → Type 0
@@ -44,7 +36,7 @@ SampleHolds (cost-sites w h kind costs sites) =
     (x y : ℕ) → x < w → y < h → CostMapSite kind w h costs x y (getD sites (cell w x y) 0)
 SampleHolds (change i u a b p) = Changeover i u a b p
 SampleHolds (clear a b d byte) = clear-byte a b d ≡ byte
-SampleHolds (lane w h picture from to broad cells words labels wider) = LaneHolds w h picture from to broad cells
+SampleHolds (lane w h picture from to broad cells) = WidestLane w h picture from to broad cells
 
 -- the starred lines, in 01's order
 abbrev pub starred : List Sample
@@ -73,18 +65,9 @@ starred =
     ∷ clear 32 128 15 0
     -- 3×3, bore 4, lane 0 to 8: width 1, cells 0 1 2 5 8; lane 0 to 0: width 2
     ∷ lane 3 3 (0 ∷ 0 ∷ 0 ∷ 0 ∷ 1 ∷ 0 ∷ 0 ∷ 0 ∷ 0 ∷ []) 0 8 1 (0 ∷ 1 ∷ 2 ∷ 5 ∷ 8 ∷ [])
-    (2 ∷ 1 ∷ 2 ∷ 1 ∷ 0 ∷ 1 ∷ 2 ∷ 1 ∷ 2 ∷ [])
-    (5 ∷ 4 ∷ 3 ∷ 4 ∷ 0 ∷ 2 ∷ 3 ∷ 2 ∷ 1 ∷ [])
-    (0 ∷ 0 ∷ 0 ∷ 0 ∷ 0 ∷ 0 ∷ 0 ∷ 0 ∷ 1 ∷ [])
     ∷ lane 3 3 (0 ∷ 0 ∷ 0 ∷ 0 ∷ 1 ∷ 0 ∷ 0 ∷ 0 ∷ 0 ∷ []) 0 0 2 (0 ∷ [])
-    (2 ∷ 1 ∷ 2 ∷ 1 ∷ 0 ∷ 1 ∷ 2 ∷ 1 ∷ 2 ∷ [])
-    (1 ∷ 0 ∷ 0 ∷ 0 ∷ 0 ∷ 0 ∷ 0 ∷ 0 ∷ 0 ∷ [])
-    (0 ∷ 0 ∷ 0 ∷ 0 ∷ 0 ∷ 0 ∷ 0 ∷ 0 ∷ 0 ∷ [])
     -- 5×1, bore 2, lane 0 to 4: width 0, all five cells
     ∷ lane 5 1 (0 ∷ 0 ∷ 1 ∷ 0 ∷ 0 ∷ []) 0 4 0 (0 ∷ 1 ∷ 2 ∷ 3 ∷ 4 ∷ [])
-    (4 ∷ 1 ∷ 0 ∷ 1 ∷ 4 ∷ [])
-    (5 ∷ 4 ∷ 3 ∷ 2 ∷ 1 ∷ [])
-    (0 ∷ 0 ∷ 0 ∷ 2 ∷ 1 ∷ [])
     ∷ []
 
 -- the one claim: every entry of a list of samples holds

@@ -1,5 +1,5 @@
--- Every starred sample holds of the rules. Of each sample there is a test that computes, and where the test passes the
--- sample holds; the tests of all samples of the list pass.
+-- Every starred sample holds of the rules, and every board that tells 01 from a misreading. Of each sample there is a test
+-- that computes, and where the test passes the sample holds; the tests of all samples of either list pass.
 --
 -- The tests look at every cell of the board. A number d is the least word of the features if some feature has the word
 -- d and none a lesser one. A cell is the one that the tie rule takes if it is a feature and no feature's keys come
@@ -20,14 +20,15 @@ use lib.Ieee.Fits.{and-l, and-r}
 use mir.Facts.{T-not, and-yes, and-no, ltb-yes, ltb-no, eqb-yes, eqb-no, yes-eqb, no-eqb}
 use Rattle.rules.specs.Limits.{mark}
 use Rattle.rules.specs.Board.{cell, column, row, away, Bored, cost-at, Unmarked}
+use Rattle.rules.specs.Measures.{chamfer}
 use Rattle.rules.specs.Tie.{Least, First, site-keys, bore-word, cost-word}
 use Rattle.rules.specs.Tie.{MapWord, MapSite, CostMapWord, CostMapSite}
 use Rattle.rules.specs.Changeover.{Changeover, numerator, divisor, floor}
 use Rattle.rules.specs.Knob.{clear-byte}
 use Rattle.rules.specs.Refusals.{some}
 use Rattle.rules.specs.Lane.{WidestLane}
-use Rattle.rules.specs.Samples.{Sample, picture-cell, cost-distances, cost-sites, change, clear, lane}
-use Rattle.rules.specs.Samples.{SampleHolds, starred, Shown}
+use Rattle.rules.specs.Samples.{Sample, picture-cell, weighted-cell, cost-distances, cost-sites, change, clear, lane}
+use Rattle.rules.specs.Samples.{SampleHolds, starred, telling, Shown}
 use Rattle.rules.proofs.Board.{cell-of}
 use Rattle.rules.proofs.Order.{comes-before, comes-before-means, every, every-means}
 use Rattle.rules.proofs.TieRule.{first-is-site, cost-as-site}
@@ -116,15 +117,16 @@ bored w picture i j = eqb (getD picture (cell w i j) 0) 1
 bored-tests : (w : ℕ) (picture : List ℕ) → Tests (Bored w picture) (bored w picture)
 bored-tests w picture i j = (eqb-yes, yes-eqb)
 
-module _ (w h kind : ℕ) (picture : List ℕ) (x y : ℕ) where
+module _ (w h kind d1 d2 : ℕ) (picture : List ℕ) (x y : ℕ) where
   -- d is the map word of the picture at (x, y)
   abbrev map-word : ℕ → Bool
-  map-word d = least w h (bored w picture) (bore-word kind 0 0 x y) d
+  map-word d = least w h (bored w picture) (bore-word kind d1 d2 x y) d
 
   -- where that test passes, it is
-  map-word-means : (d : ℕ) → T (map-word d) → MapWord kind 0 0 w h picture x y d
-  map-word-means d t = least-means w h (bored w picture) (bored-tests w picture) (bore-word kind 0 0 x y) d t
+  map-word-means : (d : ℕ) → T (map-word d) → MapWord kind d1 d2 w h picture x y d
+  map-word-means d t = least-means w h (bored w picture) (bored-tests w picture) (bore-word kind d1 d2 x y) d t
 
+module _ (w h kind : ℕ) (picture : List ℕ) (x y : ℕ) where
   -- the cell of that number is the site of the picture at (x, y)
   abbrev map-site : ℕ → Bool
   map-site c = first w h (bored w picture) (site-keys (bore-word kind 0 0 x y) (away y)) (column w c) (row w c)
@@ -197,7 +199,7 @@ floods words labels wider = record { words = words; labels = labels; wider = wid
 module _ (w h : ℕ) (picture : List ℕ) (from to broad : ℕ) (cells : List ℕ) (f : Floods) where
   -- the word given for (x, y) is the map word there
   abbrev right : ℕ → ℕ → Bool
-  right x y = map-word w h 0 picture x y (getD (f .words) (cell w x y) 0)
+  right x y = map-word w h 0 0 0 picture x y (getD (f .words) (cell w x y) 0)
 
   -- the words are right, and by them the labels find the lane and its width
   abbrev goes : Bool
@@ -210,7 +212,7 @@ module _ (w h : ℕ) (picture : List ℕ) (from to broad : ℕ) (cells : List �
       let (best, is) = lane-test-sound w h (f .words) from to broad cells (f .labels) (f .wider) (search parts) in
       record {
         word = λ c. getD (f .words) c 0;
-        word-least = λ x y l m. map-word-means w h 0 picture x y (getD (f .words) (cell w x y) 0) (each x y l m);
+        word-least = λ x y l m. map-word-means w h 0 0 0 picture x y (getD (f .words) (cell w x y) 0) (each x y l m);
         best = best;
         width-is = sym is;
       }
@@ -227,7 +229,8 @@ others (f ∷ fs) = fs
 -- the test of a sample, given the floods of the lanes from it on
 abbrev passes : Sample → List Floods → Bool
 passes (picture-cell w h kind picture x y d site) fs =
-    map-word w h kind picture x y d && map-site w h kind picture x y site
+    map-word w h kind 0 0 picture x y d && map-site w h kind picture x y site
+passes (weighted-cell w h d1 d2 picture x y d) fs = map-word w h 3 d1 d2 picture x y d
 passes (cost-distances w h kind costs words) fs =
     everywhere w h (λ x y. cost-map-word w h kind costs x y (getD words (cell w x y) 0))
 passes (cost-sites w h kind costs sites) fs =
@@ -239,7 +242,8 @@ passes (lane w h picture from to broad cells) fs = goes w h picture from to broa
 -- a sample that passes holds
 sound : (s : Sample) (fs : List Floods) → T (passes s fs) → SampleHolds s
 sound (picture-cell w h kind picture x y d site) fs t =
-    (map-word-means w h kind picture x y d (search parts), map-site-means w h kind picture x y site (search parts))
+    (map-word-means w h kind 0 0 picture x y d (search parts), map-site-means w h kind picture x y site (search parts))
+sound (weighted-cell w h d1 d2 picture x y d) fs t = map-word-means w h 3 d1 d2 picture x y d t
 sound (cost-distances w h kind costs words) fs t = λ x y l m.
     cost-map-word-means w h kind costs x y (getD words (cell w x y) 0) (everywhere-means w h _ t x y l m)
 sound (cost-sites w h kind costs sites) fs t = λ x y l m.
@@ -251,6 +255,7 @@ sound (lane w h picture from to broad cells) fs t = goes-means w h picture from 
 -- the floods of the lanes after a sample
 abbrev after : Sample → List Floods → List Floods
 after (picture-cell w h kind picture x y d site) fs = fs
+after (weighted-cell w h d1 d2 picture x y d) fs = fs
 after (cost-distances w h kind costs words) fs = fs
 after (cost-sites w h kind costs sites) fs = fs
 after (change i u a b p) fs = fs
@@ -281,3 +286,20 @@ starred-floods =
 pub starred-shown : Shown starred
 unfolding away
 starred-shown = shown-by starred starred-floods tt
+
+-- the floods of the lanes that tell
+abbrev telling-floods : List Floods
+telling-floods =
+    floods (0 ∷ 1 ∷ 4 ∷ []) (0 ∷ 0 ∷ 1 ∷ []) (0 ∷ 0 ∷ 0 ∷ [])
+    ∷ floods (0 ∷ 1 ∷ 4 ∷ []) (3 ∷ 2 ∷ 1 ∷ []) (0 ∷ 2 ∷ 1 ∷ [])
+    ∷ floods (0 ∷ 1 ∷ 4 ∷ []) (1 ∷ 2 ∷ 3 ∷ []) (0 ∷ 0 ∷ 0 ∷ [])
+    ∷ floods (1 ∷ 0 ∷ 1 ∷ 2 ∷ 1 ∷ 2 ∷ []) (5 ∷ 0 ∷ 1 ∷ 4 ∷ 3 ∷ 2 ∷ []) (0 ∷ 0 ∷ 0 ∷ 0 ∷ 0 ∷ 0 ∷ [])
+    ∷ floods (0 ∷ 1 ∷ 4 ∷ 1 ∷ 1 ∷ 2 ∷ 1 ∷ 0 ∷ 1 ∷ 2 ∷ 1 ∷ 2 ∷ [])
+    (0 ∷ 6 ∷ 5 ∷ 4 ∷ 5 ∷ 4 ∷ 3 ∷ 0 ∷ 3 ∷ 2 ∷ 1 ∷ 2 ∷ [])
+    (0 ∷ 0 ∷ 0 ∷ 0 ∷ 0 ∷ 0 ∷ 0 ∷ 0 ∷ 0 ∷ 0 ∷ 0 ∷ 0 ∷ [])
+    ∷ []
+
+-- every board that tells holds, in the same way; the chamfer form computes too
+pub telling-shown : Shown telling
+unfolding away chamfer
+telling-shown = shown-by telling telling-floods tt

@@ -1,6 +1,7 @@
 -- "Sample boards": every starred line of document 01, as one list of values of one type, and what each says of the
--- rules. `proofs/Samples.antt` proves the claim `Shown` of the list. Where a line names no kind, kind 0 is meant.
--- Assumes nothing.
+-- rules. Where a line names no kind, kind 0 is meant. Beside it stands a second list of the same type, of boards that
+-- are ours: 01 read aright and a likely misreading of it differ there. `proofs/Samples.antt` proves the claim `Shown` of
+-- either list. Assumes nothing.
 use mathlib.Core.Path.{_≡_}
 use mathlib.Core.List.{List, [], _∷_}
 use Prim.Native.Nat.{ℕ, _<_}
@@ -15,6 +16,8 @@ use Rattle.rules.specs.Lane.{WidestLane}
 pub data Sample : Type 0 where
   -- W, H, kind, the picture; the cell's column and row, its distance and its site
   picture-cell : ℕ → ℕ → ℕ → List ℕ → ℕ → ℕ → ℕ → ℕ → Sample
+  -- kind 3: W, H, d1, d2, the picture; the cell's column and row, its distance
+  weighted-cell : ℕ → ℕ → ℕ → ℕ → List ℕ → ℕ → ℕ → ℕ → Sample
   -- W, H, kind, the costs; the distance of each cell
   cost-distances : ℕ → ℕ → ℕ → List ℕ → List ℕ → Sample
   -- W, H, kind, the costs; the site of each cell
@@ -30,6 +33,7 @@ pub data Sample : Type 0 where
 abbrev pub SampleHolds : Sample → Type 0
 SampleHolds (picture-cell w h kind picture x y d site) =
     MapWord kind 0 0 w h picture x y d × MapSite kind 0 0 w h picture x y site
+SampleHolds (weighted-cell w h d1 d2 picture x y d) = MapWord 3 d1 d2 w h picture x y d
 SampleHolds (cost-distances w h kind costs words) =
     (x y : ℕ) → x < w → y < h → CostMapWord kind w h costs x y (getD words (cell w x y) 0)
 SampleHolds (cost-sites w h kind costs sites) =
@@ -68,6 +72,36 @@ starred =
     ∷ lane 3 3 (0 ∷ 0 ∷ 0 ∷ 0 ∷ 1 ∷ 0 ∷ 0 ∷ 0 ∷ 0 ∷ []) 0 0 2 (0 ∷ [])
     -- 5×1, bore 2, lane 0 to 4: width 0, all five cells
     ∷ lane 5 1 (0 ∷ 0 ∷ 1 ∷ 0 ∷ 0 ∷ []) 0 4 0 (0 ∷ 1 ∷ 2 ∷ 3 ∷ 4 ∷ [])
+    ∷ []
+
+-- boards that tell 01 from its misreadings, under each of which the starred lines hold all the same: what 01 says of the
+-- board, and what the misreading would say
+abbrev pub telling : List Sample
+telling =
+    -- 2×2, bores (1,0) and (0,1): cell 0 gets 1, site 2. With dy before the column: site 1.
+    picture-cell 2 2 0 (0 ∷ 1 ∷ 1 ∷ 0 ∷ []) 0 0 1 2
+    -- 3×2, bore (1,0): cell (2,0) gets 1, site 1. With x·H + y: site 2, or distance 5.
+    ∷ picture-cell 3 2 0 (0 ∷ 1 ∷ 0 ∷ 0 ∷ 0 ∷ 0 ∷ []) 2 0 1 1
+    -- 2×2, bore 0, cell 3: 2 by kind 1 and 1 by kind 2. With kind 1 as the larger: 1. With kind 2 as the sum: 2.
+    ∷ picture-cell 2 2 1 (1 ∷ 0 ∷ 0 ∷ 0 ∷ []) 1 1 2 0
+    ∷ picture-cell 2 2 2 (1 ∷ 0 ∷ 0 ∷ 0 ∷ []) 1 1 1 0
+    -- 4×2, bore 0, weights 3, 4: cell (3,1) gets 10. With d1 and d2 exchanged: 11. With the max slanted: 18.
+    ∷ weighted-cell 4 2 3 4 (1 ∷ 0 ∷ 0 ∷ 0 ∷ 0 ∷ 0 ∷ 0 ∷ 0 ∷ []) 3 1 10
+    -- 2×2, costs 0 at (1,0) and (0,1), no feature else: sites 2 1 2 2. With the row before the column: 1 1 2 1.
+    ∷ cost-sites 2 2 0 (4_294_967_295 ∷ 0 ∷ 0 ∷ 4_294_967_295 ∷ []) (2 ∷ 1 ∷ 2 ∷ 2 ∷ [])
+    -- 1×2, costs 0 1, kind 1: both sites 0. With the least dy before the least row: 0 1.
+    ∷ cost-sites 1 2 1 (0 ∷ 1 ∷ []) (0 ∷ 0 ∷ [])
+    -- changeover 0, 2, a = b = 0: 1, where the two are equal. With < for ≤: 0.
+    ∷ change 0 2 0 0 (pos 1)
+    -- 3×1, bore 0, lane 2 to 2: width 4. With kind 1 for the words: 2.
+    ∷ lane 3 1 (1 ∷ 0 ∷ 0 ∷ []) 2 2 4 (2 ∷ [])
+    -- the same board, lanes 0 to 2 and 2 to 0: width 0. With the width over the inner cells: 1.
+    ∷ lane 3 1 (1 ∷ 0 ∷ 0 ∷ []) 0 2 0 (0 ∷ 1 ∷ 2 ∷ [])
+    ∷ lane 3 1 (1 ∷ 0 ∷ 0 ∷ []) 2 0 0 (2 ∷ 1 ∷ 0 ∷ [])
+    -- 3×2, bore (1,0), lane 0 to 2: width 1, around the bore. With the fewest cells before the widest: 0, across it.
+    ∷ lane 3 2 (0 ∷ 1 ∷ 0 ∷ 0 ∷ 0 ∷ 0 ∷ []) 0 2 1 (0 ∷ 3 ∷ 4 ∷ 5 ∷ 2 ∷ [])
+    -- 3×4, bores 0 and 7, lane 1 to 10: cells 1 2 5 8 11 10. Compared from the far end: 1 4 3 6 9 10.
+    ∷ lane 3 4 (1 ∷ 0 ∷ 0 ∷ 0 ∷ 0 ∷ 0 ∷ 0 ∷ 1 ∷ 0 ∷ 0 ∷ 0 ∷ 0 ∷ []) 1 10 1 (1 ∷ 2 ∷ 5 ∷ 8 ∷ 11 ∷ 10 ∷ [])
     ∷ []
 
 -- the one claim: every entry of a list of samples holds

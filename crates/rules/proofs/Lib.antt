@@ -17,4 +17,5 @@ pub mod Measures
 pub mod StandIn
 pub mod Table
 pub mod Samples
+pub mod Edges
 pub mod Pinned

@@ -14,3 +14,4 @@ pub mod BenchFile
 pub mod Answers
 pub mod Calls
 pub mod Samples
+pub mod Edges

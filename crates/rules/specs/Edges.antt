@@ -1,0 +1,249 @@
+-- Document 01's rows at their edges, as one list of values of one type, and what each says of the rules. Every figure is
+-- 01's own, in digits, and never a name of `Limits`: a limit that is wrong there and in the constants alike shows here.
+-- A call has nothing wrong with it but what its line names. `proofs/Edges.antt` proves the claim `Met` of the list.
+-- Assumes nothing.
+use mathlib.Core.Path.{_≡_}
+use mathlib.Core.Bool.{true, false}
+use mathlib.Core.List.{List, [], _∷_, _++_}
+use Prim.Native.Nat.{ℕ}
+use lib.IntN.{pos, negsuc}
+use lib.Ieee.{Float, nan, inf, fin}
+use lib.ListN.{replicate}
+use Rattle.rules.specs.declared.Setting.{Setting}
+use Rattle.rules.specs.Limits.{mark}
+use Rattle.rules.specs.Board.{cell}
+use Rattle.rules.specs.Refusals.{Row, answer, scratch-words, picture-rows, cost-rows, lane-rows}
+use Rattle.rules.specs.Refusals.{clear-rows, opening-rows, changeover-rows, file-rows}
+use Rattle.rules.specs.Calls.{OpeningCall}
+
+pub data Edge : Type 0 where
+  -- what the rules compute, and what 01 says
+  number : ℕ → ℕ → Edge
+  -- the rows of a call, and the number that it answers
+  call : List Row → ℕ → Edge
+  -- pitch and radius; the two whole numbers that they open to
+  opening : Float → Float → ℕ → ℕ → Edge
+  -- pitch and radius, refused
+  no-opening : Float → Float → Edge
+
+-- a setting of two values
+abbrev pub setting : Float → Float → Setting
+setting pitch radius = record { pitch = pitch; radius = radius }
+
+-- what an edge says of the rules
+abbrev pub EdgeHolds : Edge → Type 0
+EdgeHolds (number computed stated) = computed ≡ stated
+EdgeHolds (call rows n) = answer rows ≡ n
+EdgeHolds (opening pitch radius a b) = OpeningCall (setting pitch radius) 0 a b
+EdgeHolds (no-opening pitch radius) = answer (opening-rows (setting pitch radius)) ≡ 8
+
+-- the one claim: every edge of a list holds
+abbrev pub Met : List Edge → Type 0
+Met [] = Unit {0}
+Met (e ∷ es) = EdgeHolds e × Met es
+
+-- the mark; on a board of 3 by 2 the numbers of (2, 1) and (1, 0), and the scratch words, 3·2 + 2·3 + 2·2
+abbrev pub number-edges : List Edge
+number-edges =
+    number mark 4_294_967_295 ∷ number (cell 3 2 1) 5 ∷ number (cell 3 1 0) 1 ∷ number (scratch-words 3 2) 16 ∷ []
+
+-- a map of a board whose cells are all bored, of costs that are all 0, and a lane of that board from cell 0 to itself:
+-- W, H, their cells and scratch words
+abbrev pub plain-map : ℕ → ℕ → ℕ → ℕ → List Row
+plain-map w h n scratch = picture-rows w h 0 0 0 (replicate n 1) n n scratch
+
+abbrev pub plain-costs : ℕ → ℕ → ℕ → ℕ → List Row
+plain-costs w h n scratch = cost-rows w h 0 (replicate n 0) n n scratch
+
+abbrev pub plain-lane : ℕ → ℕ → ℕ → ℕ → List Row
+plain-lane w h n scratch = lane-rows w h (replicate n 1) 0 0 n n scratch n
+
+-- 1: sides 0, 1, 512 and 513
+abbrev pub side-edges : (ℕ → ℕ → ℕ → ℕ → List Row) → List Edge
+side-edges plain =
+    call (plain 0 1 0 2) 1
+    ∷ call (plain 1 0 0 2) 1
+    ∷ call (plain 1 1 1 5) 0
+    ∷ call (plain 512 1 512 1538) 0
+    ∷ call (plain 1 512 512 1538) 0
+    ∷ call (plain 513 1 513 1541) 1
+    ∷ call (plain 1 513 513 1541) 1
+    ∷ []
+
+-- a map of one bored cell: kind and weights; costs of one cell: kind
+abbrev pub of-kind : ℕ → ℕ → ℕ → List Row
+of-kind kind d1 d2 = picture-rows 1 1 kind d1 d2 (1 ∷ []) 1 1 5
+
+abbrev pub costs-of-kind : ℕ → List Row
+costs-of-kind kind = cost-rows 1 1 kind (0 ∷ []) 1 1 5
+
+-- 2: kinds 3 and 4; of costs 1 and 2
+abbrev pub kind-edges : List Edge
+kind-edges =
+    call (of-kind 3 3 4) 0 ∷ call (of-kind 4 3 4) 2 ∷ call (costs-of-kind 1) 0 ∷ call (costs-of-kind 2) 2 ∷ []
+
+-- 3: d1 of 0, 1, 255 and 256; d2 around d1 and around 2·d1; no weights for another kind
+abbrev pub weight-edges : List Edge
+weight-edges =
+    call (of-kind 3 0 0) 3
+    ∷ call (of-kind 3 1 1) 0
+    ∷ call (of-kind 3 255 255) 0
+    ∷ call (of-kind 3 255 510) 0
+    ∷ call (of-kind 3 256 256) 3
+    ∷ call (of-kind 3 3 2) 3
+    ∷ call (of-kind 3 3 3) 0
+    ∷ call (of-kind 3 3 6) 0
+    ∷ call (of-kind 3 3 7) 3
+    ∷ call (of-kind 0 0 0) 0
+    ∷ call (of-kind 2 0 0) 0
+    ∷ []
+
+-- the calls on a board of 3 by 2 with the lengths of the picture, the distances, the sites and the scratch, and of the
+-- path for a lane
+abbrev pub lent-map : ℕ → ℕ → ℕ → ℕ → List Row
+lent-map picture distances sites scratch = picture-rows 3 2 0 0 0 (replicate picture 1) distances sites scratch
+
+abbrev pub lent-costs : ℕ → ℕ → ℕ → ℕ → List Row
+lent-costs costs distances sites scratch = cost-rows 3 2 0 (replicate costs 0) distances sites scratch
+
+abbrev pub lent-lane : ℕ → ℕ → ℕ → ℕ → ℕ → List Row
+lent-lane path picture distances sites scratch =
+    lane-rows 3 2 (replicate picture 1) 0 5 distances sites scratch path
+
+-- 4: each list of the minimum length, a longer buffer, and each list a word short
+abbrev pub lent-edges : (ℕ → ℕ → ℕ → ℕ → List Row) → List Edge
+lent-edges lent =
+    call (lent 6 6 6 16) 0
+    ∷ call (lent 6 7 7 17) 0
+    ∷ call (lent 5 6 6 16) 4
+    ∷ call (lent 7 7 7 17) 4
+    ∷ call (lent 6 5 6 16) 4
+    ∷ call (lent 6 6 5 16) 4
+    ∷ call (lent 6 6 6 15) 4
+    ∷ []
+
+abbrev pub path-edges : List Edge
+path-edges = call (lent-lane 5 6 6 6 16) 4 ∷ call (lent-lane 7 6 6 6 16) 0 ∷ []
+
+-- 4: slices unequal, empty and over 262,144, with pitch and radius 64.0
+abbrev pub slices : ℕ → ℕ → List Row
+slices squares clear = clear-rows (setting (fin false 1 (pos 6)) (fin false 1 (pos 6))) squares clear
+
+abbrev pub slice-edges : List Edge
+slice-edges =
+    call (slices 0 0) 4
+    ∷ call (slices 1 1) 0
+    ∷ call (slices 1 2) 4
+    ∷ call (slices 2 1) 4
+    ∷ call (slices 262_144 262_144) 0
+    ∷ call (slices 262_145 262_145) 4
+    ∷ []
+
+-- a map, a lane and costs of 2 by 1
+abbrev pub map-of : ℕ → ℕ → List Row
+map-of first second = picture-rows 2 1 0 0 0 (first ∷ second ∷ []) 2 2 8
+
+abbrev pub lane-of : ℕ → ℕ → List Row
+lane-of first second = lane-rows 2 1 (first ∷ second ∷ []) 0 1 2 2 8 2
+
+abbrev pub costs-of : ℕ → ℕ → List Row
+costs-of first second = cost-rows 2 1 0 (first ∷ second ∷ []) 2 2 8
+
+-- 5: bytes 0, 1 and 2; costs 0, 1,000,000 and 1,000,001, the mark and one less. 6: nothing bored; every cost the mark.
+abbrev pub content-edges : List Edge
+content-edges =
+    call (map-of 0 1) 0
+    ∷ call (map-of 1 0) 0
+    ∷ call (map-of 2 1) 5
+    ∷ call (map-of 1 2) 5
+    ∷ call (map-of 0 0) 6
+    ∷ call (lane-of 0 1) 0
+    ∷ call (lane-of 1 2) 5
+    ∷ call (lane-of 0 0) 6
+    ∷ call (costs-of 0 1_000_000) 0
+    ∷ call (costs-of 0 1_000_001) 5
+    ∷ call (costs-of 0 4_294_967_294) 5
+    ∷ call (costs-of 0 4_294_967_295) 0
+    ∷ call (costs-of 4_294_967_295 4_294_967_295) 6
+    ∷ []
+
+-- 7: the two ends of a lane on a board of 3 by 2
+abbrev pub ends : ℕ → ℕ → List Row
+ends from to = lane-rows 3 2 (1 ∷ 0 ∷ 0 ∷ 0 ∷ 0 ∷ 0 ∷ []) from to 6 6 16 6
+
+abbrev pub end-edges : List Edge
+end-edges = call (ends 0 5) 0 ∷ call (ends 5 0) 0 ∷ call (ends 0 6) 7 ∷ call (ends 6 0) 7 ∷ []
+
+-- 8: k of 1, 96 and 4,096, which are 0.015625, 1.5 and 64.0; 4,097 and 1.5 over 64; both zeros, −1.0, infinity and NaN
+abbrev pub knob-edges : List Edge
+knob-edges =
+    opening (fin false 1 (negsuc 5)) (fin false 3 (negsuc 0)) 1 96
+    ∷ opening (fin false 3 (negsuc 0)) (fin false 1 (pos 6)) 96 4096
+    ∷ no-opening (fin false 4097 (negsuc 5)) (fin false 1 (pos 0))
+    ∷ no-opening (fin false 1 (pos 0)) (fin false 4097 (negsuc 5))
+    ∷ no-opening (fin false 3 (negsuc 6)) (fin false 1 (pos 0))
+    ∷ no-opening (fin false 0 (pos 0)) (fin false 1 (pos 0))
+    ∷ no-opening (fin false 1 (pos 0)) (fin true 0 (pos 0))
+    ∷ no-opening (fin true 1 (pos 0)) (fin false 1 (pos 0))
+    ∷ no-opening (inf false) (fin false 1 (pos 0))
+    ∷ no-opening (fin false 1 (pos 0)) nan
+    ∷ []
+
+-- 9: i beside u, u of 511 and 512, values of 2,000,000 and 2,000,001
+abbrev pub changeover-edges : List Edge
+changeover-edges =
+    call (changeover-rows 0 1 0 0) 0
+    ∷ call (changeover-rows 1 1 0 0) 9
+    ∷ call (changeover-rows 2 1 0 0) 9
+    ∷ call (changeover-rows 0 511 0 0) 0
+    ∷ call (changeover-rows 0 512 0 0) 9
+    ∷ call (changeover-rows 0 1 2_000_000 2_000_000) 0
+    ∷ call (changeover-rows 0 1 2_000_001 0) 9
+    ∷ call (changeover-rows 0 1 0 2_000_001) 9
+    ∷ []
+
+-- 10: files of 3, 4, 16,384, 16,386 and 16,388 bytes, all 0. 6: an empty one.
+abbrev pub length-edges : List Edge
+length-edges =
+    call (file-rows []) 6
+    ∷ call (file-rows (replicate 3 0)) 10
+    ∷ call (file-rows (replicate 4 0)) 0
+    ∷ call (file-rows (replicate 16_384 0)) 0
+    ∷ call (file-rows (replicate 16_386 0)) 10
+    ∷ call (file-rows (replicate 16_388 0)) 10
+    ∷ []
+
+-- 11: x and y of 63, 64 and 256
+abbrev pub record-edges : List Edge
+record-edges =
+    call (file-rows (63 ∷ 0 ∷ 63 ∷ 0 ∷ [])) 0
+    ∷ call (file-rows (64 ∷ 0 ∷ 0 ∷ 0 ∷ [])) 11
+    ∷ call (file-rows (0 ∷ 0 ∷ 64 ∷ 0 ∷ [])) 11
+    ∷ call (file-rows (0 ∷ 1 ∷ 0 ∷ 0 ∷ [])) 11
+    ∷ call (file-rows (0 ∷ 0 ∷ 0 ∷ 1 ∷ [])) 11
+    ∷ []
+
+-- "the first row that holds": two rows hold, and the answer is the first in the entry's order
+abbrev pub order-edges : List Edge
+order-edges =
+    call (picture-rows 0 1 4 0 0 [] 0 0 2) 1
+    ∷ call (picture-rows 1 1 4 0 0 (2 ∷ []) 0 1 5) 2
+    ∷ call (picture-rows 1 1 3 0 0 (1 ∷ []) 0 1 5) 3
+    ∷ call (picture-rows 1 1 0 0 0 (2 ∷ []) 0 1 5) 4
+    ∷ call (map-of 0 2) 5
+    ∷ call (cost-rows 1 1 2 (0 ∷ []) 0 1 5) 2
+    ∷ call (cost-rows 1 1 0 (1_000_001 ∷ []) 0 1 5) 4
+    ∷ call (costs-of 4_294_967_295 1_000_001) 5
+    ∷ call (lane-rows 1 1 (2 ∷ []) 0 0 1 1 5 0) 4
+    ∷ call (lane-rows 1 1 (0 ∷ []) 0 1 1 1 5 1) 6
+    ∷ call (file-rows (64 ∷ 0 ∷ 0 ∷ 0 ∷ 0 ∷ [])) 10
+    ∷ []
+
+-- all of them
+abbrev pub edges : List Edge
+edges =
+    number-edges
+    ++ side-edges plain-map ++ side-edges plain-costs ++ side-edges plain-lane
+    ++ kind-edges ++ weight-edges
+    ++ lent-edges lent-map ++ lent-edges lent-costs ++ lent-edges (lent-lane 6) ++ path-edges ++ slice-edges
+    ++ content-edges ++ end-edges ++ knob-edges ++ changeover-edges ++ length-edges ++ record-edges ++ order-edges

@@ -1,14 +1,15 @@
 -- The picture of a bench file and the text of its answer. A record sets a cell to 1 and changes no other, so the
 -- picture stays 64 by 64 and holds nothing but 0 and 1, whatever the bytes are. The greatest word and the least cell
--- that has it are one pair only: each of two claims bounds the other. The text is checked against two answers written
--- out byte by byte. Assumes nothing.
+-- that has it are one pair only: each of two claims bounds the other. A record whose coordinates differ tells x from y
+-- and the low byte from the high one. The text is checked against two answers written out byte by byte.
+-- Assumes nothing.
 use mathlib.Core.Path.{_≡_, refl, _∙_, sym, subst}
 use mathlib.Core.List.{List, [], _∷_}
 use Prim.Native.Nat.{ℕ, zero, suc, _*_, _≤_, zero-le}
 use native.Mathlib.Nat.{le-refl, le-antisymm}
 use lib.ListN.{length, getD, set, replicate, length-set, length-replicate}
 use Rattle.rules.specs.Limits.{bench-side}
-use Rattle.rules.specs.BenchFile.{bore-all, bored-by, Farthest, text}
+use Rattle.rules.specs.BenchFile.{u16-of, bore-all, bored-by, Farthest, text}
 
 -- records leave a picture as long as it was
 bore-all-length : (bytes picture : List ℕ) → length (bore-all bytes picture) ≡ length picture
@@ -68,6 +69,14 @@ farthest-unique {picture} {d} {d′} {n} {n′} f g =
     let same : d ≡ d′ = le-antisymm (no-farther f g) (no-farther g f) in
     let moved : Farthest picture d n′ = subst (λ (e : ℕ). Farthest picture e n′) (sym same) g in
     (same, le-antisymm (no-later f moved) (no-later moved f))
+
+-- "x then y": the record 1 0 2 0 bores the cell (1, 2), whose number is 129, and no other
+pub record-bores : bored-by (1 ∷ 0 ∷ 2 ∷ 0 ∷ []) ≡ set (replicate 4096 0) 129 1
+record-bores = refl
+
+-- "little-endian u16": the low byte is first
+pub low-first : (u16-of 1 0 ≡ 1) × (u16-of 0 1 ≡ 256)
+low-first = (refl, refl)
 
 -- "sites 1", "farthest 7938", "cell 4095", a line each
 pub sample-text : text 0 1 7938 4095

@@ -6,19 +6,16 @@ use crate::text::print_rows;
 use crate::text::print_word;
 use maps::picture_map;
 use rules::MARK;
-ghost use Prim.Native.Nat.{_≤_};
-ghost use Rattle.rules.specs.Limits.{side-limit};
+ghost use Prim.Native.Nat.{_<_};
 
-// The side of the largest board.
-const LARGEST: usize = rules::SIDE_LIMIT as usize;
-// Its cells.
-const CELLS: usize = LARGEST * LARGEST;
-// Its scratch words.
-const SCRATCH: usize = CELLS + 2 * LARGEST + 2 * LARGEST;
+// The cells of the largest board, 512 by 512.
+const CELLS: usize = 262_144;
+// Its scratch words: 512·512 + 2·512 + 2·512.
+const SCRATCH: usize = 264_192;
 // The cells of the longest of the other boards, a line with one cell too many: enough for every other.
-const LINE: usize = LARGEST + 1;
-// Its scratch words.
-const LINE_SCRATCH: usize = LINE + 2 * LINE + 2;
+const LINE: usize = 513;
+// Its scratch words: 513 + 2·513 + 2.
+const LINE_SCRATCH: usize = 1_541;
 
 // What is asked of a picture.
 pub struct Question {
@@ -72,7 +69,7 @@ fn map_of(
 
 // One cell of a picture's map, in words of its own.
 fn look(question: Question, picture: &[u8], cell: usize) -> Found
-    requires { ⌜ cell ≤ side-limit ⌝ }
+    requires { ⌜ cell < 513 ⌝ }
 {
     let mut distances = [MARK; LINE];
     let mut sites = [MARK; LINE];
@@ -107,7 +104,7 @@ fn print_answer(refusal: u32) {
 
 // A board, and one cell of its map.
 pub fn show_cell(name: &[u8], question: Question, picture: &[u8], cell: usize)
-    requires { ⌜ cell ≤ side-limit ⌝ }
+    requires { ⌜ cell < 513 ⌝ }
 {
     print(name);
     let found = look(question, picture, cell);
@@ -129,10 +126,10 @@ pub fn show_largest() {
     let mut distances = [MARK; CELLS];
     let mut sites = [MARK; CELLS];
     let mut scratch = [MARK; SCRATCH];
-    let asked = board(rules::SIDE_LIMIT, rules::SIDE_LIMIT, 0);
+    let asked = board(512, 512, 0);
     map_of(asked, &picture, &mut distances, &mut sites, &mut scratch);
     print(b"512 by 512, bore 0");
-    print_cell(CELLS - 1, distances[CELLS - 1], sites[CELLS - 1]);
+    print_cell(262_143, distances[262_143], sites[262_143]);
     print(b"\n");
 }
 

@@ -68,3 +68,30 @@ pub fn show_clear() {
     print_clear(squares[1], clear[1]);
     print(b"\n");
 }
+
+// "clear map of 262144 words: good"
+fn print_length(name: &[u8], squares: &[u32], clear: &mut [u8]) {
+    let setting = Setting {
+        pitch: GOOD,
+        radius: GOOD,
+    };
+    print(b"clear map of ");
+    print(name);
+    print(b" words: ");
+    let refusal = clear_map(setting, squares, clear);
+    if refusal == 0 {
+        print(b"good");
+    } else {
+        print_refusal(refusal);
+    }
+    print(b"\n");
+}
+
+// The longest clear map, and one word more.
+pub fn show_lengths() {
+    let squares = [0; 262_145];
+    let mut most = [2; 262_144];
+    print_length(b"262144", &squares[..262_144], &mut most);
+    let mut too_many = [2; 262_145];
+    print_length(b"262145", &squares, &mut too_many);
+}

@@ -1,4 +1,5 @@
-// The samples of document 01 through the public entries, a line for each.
+// The samples of document 01 through the public entries, a line for each, and its limits from both sides. Every figure
+// that is asked is the paper's own, in digits: a limit that is wrong in the rules shows.
 use boards::board;
 use boards::chamfer_board;
 use boards::show_003;
@@ -9,10 +10,9 @@ use changeovers::show_changeover;
 use courses::show_lane;
 use files::show_file;
 use knobs::show_clear;
+use knobs::show_lengths;
 use knobs::show_value;
 use prices::show_costs;
-use rules::COST_LIMIT;
-use rules::SIDE_LIMIT;
 
 mod boards;
 mod changeovers;
@@ -41,8 +41,8 @@ fn cells() {
 // Boards that have nothing wrong with them but a side.
 fn sides() {
     let bored = [1; 513];
-    show_answer(b"513 by 1", board(SIDE_LIMIT + 1, 1, 0), &bored);
-    show_answer(b"1 by 513", board(1, SIDE_LIMIT + 1, 0), &bored);
+    show_answer(b"513 by 1", board(513, 1, 0), &bored);
+    show_answer(b"1 by 513", board(1, 513, 0), &bored);
 }
 
 // Weights, on a board of one bored cell. Kind 0 reads none.
@@ -51,6 +51,8 @@ fn weights() {
     show_answer(b"weights 3 and 7", chamfer_board(1, 1, 3, 7), &[1]);
     show_answer(b"weights 0 and 0", chamfer_board(1, 1, 0, 0), &[1]);
     show_answer(b"weights 0 and 0, kind 0", board(1, 1, 0), &[1]);
+    show_answer(b"weights 255 and 510", chamfer_board(1, 1, 255, 510), &[1]);
+    show_answer(b"weights 256 and 256", chamfer_board(1, 1, 256, 256), &[1]);
 }
 
 // Values of a setting, each by itself.
@@ -63,12 +65,22 @@ fn values() {
     show_value(b"-1.0", -1.0);
 }
 
-// Costs of five cells in a row, and one that is too dear.
+// Changeovers, and the first column and values that have none.
+fn columns() {
+    show_changeover(0, 1, 2_000_000, 0);
+    show_changeover(510, 511, 0, 2_000_000);
+    show_changeover(511, 512, 0, 0);
+    show_changeover(0, 1, 2_000_001, 0);
+    show_changeover(0, 1, 0, 2_000_001);
+}
+
+// Costs of five cells in a row, the dearest that is taken, and one that is too dear.
 fn lines_of_costs() {
     show_costs(b"kind 0, costs 9 0 9 9 9", 0, &[9, 0, 9, 9, 9]);
     show_costs(b"kind 1, costs 9 0 9 9 9", 1, &[9, 0, 9, 9, 9]);
     show_costs(b"kind 1, costs 4 2 8 6 1", 1, &[4, 2, 8, 6, 1]);
-    show_costs(b"cost 1000001", 0, &[COST_LIMIT + 1, 0, 0, 0, 0]);
+    show_costs(b"cost 1000000", 0, &[1_000_000, 0, 0, 0, 0]);
+    show_costs(b"cost 1000001", 0, &[1_000_001, 0, 0, 0, 0]);
 }
 
 // Lanes around a bore, from a cell to itself, and across a bore.
@@ -79,18 +91,26 @@ fn lanes() {
     show_lane(b"5 by 1, bore 2, lane 0 to 4", 5, 1, &[0, 0, 1, 0, 0], 0, 4);
 }
 
+// Bench files: the paper's two, the longest, and one record more.
+fn bench_files() {
+    show_file(b"bench file, the record (0, 0)", &[0, 0, 0, 0]);
+    show_file(b"bench file, empty", b"");
+    let zeros = [0; 16_388];
+    show_file(b"bench file, 16384 bytes of 0", &zeros[..16_384]);
+    show_file(b"bench file, 16388 bytes of 0", &zeros);
+}
+
 fn main() {
     cells();
     show_003();
     show_largest();
     sides();
     weights();
-    show_changeover(0, 1, 2_000_000, 0);
-    show_changeover(510, 511, 0, 2_000_000);
+    columns();
     values();
     show_clear();
+    show_lengths();
     lines_of_costs();
     lanes();
-    show_file(b"bench file, the record (0, 0)", &[0, 0, 0, 0]);
-    show_file(b"bench file, empty", b"");
+    bench_files();
 }

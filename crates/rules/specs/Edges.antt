@@ -174,7 +174,8 @@ ends from to = lane-rows 3 2 (1 ∷ 0 ∷ 0 ∷ 0 ∷ 0 ∷ 0 ∷ []) from to 6 
 abbrev pub end-edges : List Edge
 end-edges = call (ends 0 5) 0 ∷ call (ends 5 0) 0 ∷ call (ends 0 6) 7 ∷ call (ends 6 0) 7 ∷ []
 
--- 8: k of 1, 96 and 4,096, which are 0.015625, 1.5 and 64.0; 4,097 and 1.5 over 64; both zeros, −1.0, infinity and NaN
+-- 8: k of 1, 96 and 4,096, which are 0.015625, 1.5 and 64.0. Bad are 4,097 and 1.5 over 64, the f32 nearest to 0.01, both
+-- zeros, −1.0, infinity and NaN. `fin s m e` is m·2^e, negative where s is true.
 abbrev pub knob-edges : List Edge
 knob-edges =
     opening (fin false 1 (negsuc 5)) (fin false 3 (negsuc 0)) 1 96
@@ -182,6 +183,7 @@ knob-edges =
     ∷ no-opening (fin false 4097 (negsuc 5)) (fin false 1 (pos 0))
     ∷ no-opening (fin false 1 (pos 0)) (fin false 4097 (negsuc 5))
     ∷ no-opening (fin false 3 (negsuc 6)) (fin false 1 (pos 0))
+    ∷ no-opening (fin false 5368709 (negsuc 28)) (fin false 1 (pos 0))
     ∷ no-opening (fin false 0 (pos 0)) (fin false 1 (pos 0))
     ∷ no-opening (fin false 1 (pos 0)) (fin true 0 (pos 0))
     ∷ no-opening (fin true 1 (pos 0)) (fin false 1 (pos 0))

@@ -80,7 +80,7 @@ abbrev pub telling : List Sample
 telling =
     -- 2×2, bores (1,0) and (0,1): cell 0 gets 1, site 2. With dy before the column: site 1.
     picture-cell 2 2 0 (0 ∷ 1 ∷ 1 ∷ 0 ∷ []) 0 0 1 2
-    -- 3×2, bore (1,0): cell (2,0) gets 1, site 1. With x·H + y: site 2, or distance 5.
+    -- 3×2, bore (1,0): cell (2,0) gets 1, site 1. With x·H + y for its number: site 2.
     ∷ picture-cell 3 2 0 (0 ∷ 1 ∷ 0 ∷ 0 ∷ 0 ∷ 0 ∷ []) 2 0 1 1
     -- 2×2, bore 0, cell 3: 2 by kind 1 and 1 by kind 2. With kind 1 as the larger: 1. With kind 2 as the sum: 2.
     ∷ picture-cell 2 2 1 (1 ∷ 0 ∷ 0 ∷ 0 ∷ []) 1 1 2 0

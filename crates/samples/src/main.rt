@@ -7,19 +7,19 @@ use boards::show_answer;
 use boards::show_cell;
 use boards::show_largest;
 use changeovers::show_changeover;
-use courses::show_lane;
+use cost_boards::show_costs;
 use files::show_file;
 use knobs::show_clear;
 use knobs::show_lengths;
 use knobs::show_value;
-use prices::show_costs;
+use lane_boards::show_lane;
 
 mod boards;
 mod changeovers;
-mod courses;
+mod cost_boards;
 mod files;
 mod knobs;
-mod prices;
+mod lane_boards;
 mod text;
 
 // The cell that the paper names, of boards with a few bores.

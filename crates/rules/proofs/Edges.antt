@@ -12,7 +12,6 @@ use native.Mathlib.Decide.{decLe}
 use native.Mathlib.Omega.{arith}
 use lib.Dec.{T, leb, ltb, eqb}
 use lib.Ieee.{toBits, size}
-use lib.Ieee.Fits.{and-l, and-r}
 use lib.Pow.{pow-mono, shl-shr}
 use mir.Facts.{T-not, or-yes, leb-yes, ltb-yes, eqb-yes, yes-eqb}
 use borrow.Author.Tests.{le-leb, lt-ltb}
@@ -26,9 +25,7 @@ use Rattle.rules.specs.Calls.{Opened, OpeningCall}
 use Rattle.rules.specs.Edges.{Edge, number, call, opening, no-opening, setting, EdgeHolds, Met, edges}
 use Rattle.rules.proofs.Order.{every, every-means}
 use Rattle.rules.proofs.Knob.{some-means, setting-good, opened-good}
-
--- where a test made of parts passes, each part does
-ruleset parts = (and-l, and-r)
+use Rattle.rules.proofs.Samples.{parts}
 
 -- the word is that of the good value for k, with 2^m the greatest power of two not above k
 abbrev fits : ℕ → ℕ → ℕ → Bool

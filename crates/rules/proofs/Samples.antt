@@ -37,7 +37,7 @@ use Rattle.rules.proofs.Knob.{some-means}
 use Rattle.rules.proofs.LaneTest.{lane-test, lane-test-sound}
 
 -- where a test made of parts passes, each part does
-ruleset parts = (and-l, and-r)
+pub ruleset parts = (and-l, and-r)
 
 -- every cell of the board passes
 abbrev everywhere : ℕ → ℕ → (ℕ → ℕ → Bool) → Bool

@@ -11,9 +11,19 @@ use borrow.Author.Needs.{needs}
 use Rattle.cost_lines.proofs.columns_and_rows.Statement.{statement}
 use Rattle.cost_lines.proofs.columns_and_rows.Tie as tie
 
--- the way back from the columns to the entry
-abbrev start : tie.After-all-columns → tie.Start
-start c = c .before .before .before .before .before .before .before .before .before
+-- the ways back: from the lists that are known to the start, from the columns to the start, from the line that is lent to
+-- the rows to the columns, and from the end to the rows
+abbrev known : tie.After-slice-known4 → tie.Start
+known c = c .before .before .before .before .before
+
+abbrev at-start : tie.After-all-columns → tie.Start
+at-start c = known (c .before .before .before .before)
+
+abbrev swept : tie.After-all-rows-arg → tie.After-all-columns
+swept c = c .before .before .before .before .before .before .before
+
+abbrev crossed : tie.After-slice-known11 → tie.After-all-rows
+crossed c = c .before .before .before .before .before .before .before .before
 
 -- the distances have room for a column's winners
 tall : (c : tie.Start) → c .args .h ≤ length (c .args .distances .now)
@@ -29,47 +39,47 @@ winners-down : (c : tie.Start) → length (take (c .args .h) (c .args .distances
 winners-down c = length-take-le (c .args .h) (c .args .distances .now) (tall c)
 
 -- what is lent for a row is as long as the board is wide
-line-across : (c : tie.After-all-columns) → let a = start c .args in
+line-across : (c : tie.After-all-columns) → let a = at-start c .args in
     length (take (a .w) (c .all-columns .last .1 .1 .1 .0 ++ drop (a .h) (a .line .now))) ≡ a .w
 line-across c =
-    let a = start c .args in
+    let a = at-start c .args in
     let line = c .all-columns .last .1 .1 .1 .0 ++ drop (a .h) (a .line .now) in
     let long = length-front (a .line .now) (c .all-columns .last .1 .1 .1 .0) (a .h)
     (c .all-columns .kept .1 .1 .1 .0) in
-    length-take-le (a .w) line (omega (arith, long, start c .pre .0 .sides .width-to, start c .pre .1))
+    length-take-le (a .w) line (omega (arith, long, at-start c .pre .0 .sides .width-to, at-start c .pre .1))
 
 slice-relend-prefix-all-columns : tie.Need-slice-relend-prefix-all-columns
 slice-relend-prefix-all-columns c = search needs
 
 slice-aggregate-all-columns : tie.Need-slice-aggregate-all-columns
-slice-aggregate-all-columns c = sym (line-down (c .before .before .before .before .before .before))
+slice-aggregate-all-columns c = sym (line-down (known (c .before)))
 
 slice-relend-prefix-all-columns-2 : tie.Need-slice-relend-prefix-all-columns-2
-slice-relend-prefix-all-columns-2 c = tall (c .before .before .before .before .before .before)
+slice-relend-prefix-all-columns-2 c = tall (known (c .before))
 
 slice-aggregate-all-columns-2 : tie.Need-slice-aggregate-all-columns-2
-slice-aggregate-all-columns-2 c = sym (winners-down (c .before .before .before .before .before .before .before))
+slice-aggregate-all-columns-2 c = sym (winners-down (known (c .before .before)))
 
 all-columns-requires : tie.Need-all-columns-requires
 all-columns-requires c κs =
-    let s = c .before .before .before .before .before .before .before .before in
+    let s = known (c .before .before .before) in
     rw (line-down s) (s .pre .0, winners-down s, s .pre .4)
 
 slice-relend-prefix-all-rows : tie.Need-slice-relend-prefix-all-rows
 slice-relend-prefix-all-rows c = search needs
 
 slice-aggregate-all-rows : tie.Need-slice-aggregate-all-rows
-slice-aggregate-all-rows c = sym (line-across (c .before .before .before .before .before .before .before))
+slice-aggregate-all-rows c = sym (line-across (swept c))
 
 all-rows-requires : tie.Need-all-rows-requires
 all-rows-requires c κs =
-    let m = c .before .before .before .before .before .before .before .before .before .before in
-    let p = start m .pre in
+    let m = swept (c .before .before .before) in
+    let p = at-start m .pre in
     rw (line-across m) (
       p .0,
-      rw (line-down (start m)) at (m .all-columns .ensures),
+      rw (line-down (at-start m)) at (m .all-columns .ensures),
       m .all-columns .kept .1 .1 .1 .1 .1 .0 ∙ p .4,
-      length-front (start m .args .distances .now) (m .all-columns .last .1 .1 .1 .1 .0) (start m .args .h)
+      length-front (at-start m .args .distances .now) (m .all-columns .last .1 .1 .1 .1 .0) (at-start m .args .h)
           (m .all-columns .kept .1 .1 .1 .1 .0) ∙ p .2,
       p .3,
     )
@@ -88,8 +98,8 @@ same-length-4 c = search needs
 
 returns : tie.Need-returns
 returns c =
-    let r = c .before .before .before .before .before .before .before .before in
-    let m = r .before .before .before .before .before .before .before .before .before .before .before in
+    let r = crossed c in
+    let m = swept (r .before .before .before .before) in
     rw (line-across m) at (r .all-rows .ensures)
 
 pub columns-and-rows-spec : {M : Type 1} → statement M

@@ -11,12 +11,16 @@ use borrow.Author.Needs.{needs}
 use Rattle.cost_lines.proofs.column.column_line.Statement.{statement}
 use Rattle.cost_lines.proofs.column.column_line.Tie as tie
 
--- the ways back: from the gathered line to the start, and from the winners to the gathered line
+-- the ways back: from the gathered line to the start, from the winners to the gathered line, and from what is lent to the
+-- scatter to the winners
 abbrev at-start : tie.After-gather → tie.Start
 at-start c = c .before .before .before .before .before .before
 
 abbrev gathered : tie.After-winners-of → tie.After-gather
 gathered c = c .before .before .before .before .before .before
+
+abbrev won : tie.After-scatter-arg3 → tie.After-winners-of
+won c = c .before .before .before .before .before .before .before
 
 mul-tail : tie.Need-mul-tail
 mul-tail c = search needs
@@ -59,7 +63,7 @@ winners-of-requires c κs =
 
 scatter-requires : tie.Need-scatter-requires
 scatter-requires c κs =
-    let w = c .before .before .before .before .before .before .before in
+    let w = won c in
     let f = gathered w in
     let p = at-start f .pre in
     let a = at-start f .args in
@@ -86,7 +90,7 @@ same-length-3 c = search needs
 returns : tie.Need-returns
 returns c =
     let s = c .before .before in
-    let w = s .before .before .before .before .before .before .before .before in
+    let w = won (s .before) in
     let f = gathered w in
     let p = at-start f .pre in
     let a = at-start f .args in

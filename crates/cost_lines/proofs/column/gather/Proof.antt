@@ -20,11 +20,15 @@ Inv-loop w x costs values₀ j₀ values j = Filling (λ k. cell-value (cost-at 
 abbrev μ-loop : tie.MeasureT-loop
 μ-loop w x costs values₀ j₀ values j = length values₀ - j
 
+-- the way back from a turn of the loop to the start
+abbrev at-start : tie.In-loop Inv-loop μ-loop → tie.Start Inv-loop μ-loop
+at-start c = c .before .before .before .before
+
 -- the cell that is read is one of the picture
-inside : (c : tie.In-loop Inv-loop μ-loop) → let a = c .before .before .before .before .args in
+inside : (c : tie.In-loop Inv-loop μ-loop) → let a = at-start c .args in
     cell (a .w) (a .x) (c .before .loop .j) < length (a .costs .now)
 inside c =
-    let a = c .before .before .before .before in
+    let a = at-start c in
     let l : c .before .loop .j < length (a .args .values .now) = omega (arith, c .before .loop .inv .0 .as-long) in
     omega (arith, cell-in (a .pre .0) l, a .pre .1)
 
@@ -60,7 +64,7 @@ loop-less c = omega (arith, c .before .before .before .loop .inv .0 .as-long)
 
 loop-again : tie.Need-loop-again Inv-loop μ-loop
 loop-again c =
-    let a = c .before .before .before .before .before .before .args in (
+    let a = at-start (c .before .before) .args in (
       filling-more (c .before .before .before .loop .inv .0)
           (omega (arith, c .before .before .before .loop .inv .0 .as-long))
           (c .cell-value .ensures ∙ ap cell-value (getD-within (a .costs .now)

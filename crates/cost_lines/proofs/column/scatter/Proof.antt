@@ -17,25 +17,29 @@ Inv-loop w x values winners words₀ y₀ words y =
 abbrev μ-loop : tie.MeasureT-loop
 μ-loop w x values winners words₀ y₀ words y = length values - y
 
+-- the way back from a turn of the loop to the start
+abbrev at-start : tie.In-loop Inv-loop μ-loop → tie.Start Inv-loop μ-loop
+at-start c = c .before .before .before .before .before
+
 -- the cell that is put is one of the board
-inside : (c : tie.In-loop Inv-loop μ-loop) → let a = c .before .before .before .before .before .args in
+inside : (c : tie.In-loop Inv-loop μ-loop) → let a = at-start c .args in
     cell (a .w) (a .x) (c .before .loop .y) < length (a .words .now)
 inside c =
-    let p = c .before .before .before .before .before .pre in
+    let p = at-start c .pre in
     omega (arith, cell-in (p .0) (c .loop-test .taken), p .1)
 
 loop-holds : tie.Need-loop-holds Inv-loop μ-loop
 loop-holds c = (putting-none, omega arith)
 
 mul-winner-word : tie.Need-mul-winner-word Inv-loop μ-loop
-mul-winner-word c = omega (arith, c .before .before .before .before .before .pre .2)
+mul-winner-word c = omega (arith, at-start c .pre .2)
 
 shared-slice-read-winner-word : tie.Need-shared-slice-read-winner-word Inv-loop μ-loop
-shared-slice-read-winner-word c = omega (arith, c .before .before .before .before .before .before .pre .2)
+shared-slice-read-winner-word c = omega (arith, at-start (c .before) .pre .2)
 
 winner-word-requires : tie.Need-winner-word-requires Inv-loop μ-loop
 winner-word-requires c κs =
-    c .before .before .before .before .before .before .pre .3 (c .before .before .loop .y) (c .before .loop-test .taken)
+    at-start (c .before) .pre .3 (c .before .before .loop .y) (c .before .loop-test .taken)
 
 mul-words : tie.Need-mul-words Inv-loop μ-loop
 mul-words c = omega (arith, inside (c .before .before))
@@ -58,8 +62,7 @@ loop-less c = omega arith
 
 loop-again : tie.Need-loop-again Inv-loop μ-loop
 loop-again c = (
-  putting-more (c .before .before .before .loop .inv .0)
-      (c .before .before .before .before .before .before .before .pre .0) (inside (c .before .before))
+  putting-more (c .before .before .before .loop .inv .0) (at-start (c .before .before) .pre .0) (inside (c .before .before))
       (c .winner-word .ensures),
   omega arith,
 )

@@ -16,16 +16,22 @@ Inv-loop g h costs values₀ scratch₀ distances₀ sites₀ w y₀ values scra
 abbrev μ-loop : tie.MeasureT-loop
 μ-loop g h costs values₀ scratch₀ distances₀ sites₀ w y₀ values scratch distances sites y = h - y
 
--- the row stands within the board's cells
-inside : (c : tie.In-loop Inv-loop μ-loop) → let a = c .before .before .before .before .before .before .before .args
-    in let w = length (a .values .now) in
-    c .before .loop .y * w + w ≤ w * a .h
-inside c = row-ends (length (c .before .before .before .before .before .before .before .args .values .now)) refl
-    (c .loop-test .taken)
+-- the ways back: from the loop to the start, from what is lent to the row line to its turn, and from the end of the turn to
+-- the row line
+abbrev at-start : tie.At-loop Inv-loop μ-loop → tie.Start Inv-loop μ-loop
+at-start c = c .before .before .before .before .before .before
 
--- the way back from the end of a turn to its beginning
-abbrev turn : tie.After-slice-known8 Inv-loop μ-loop → tie.In-loop Inv-loop μ-loop
-turn c = c .before .before .before .before .before .before .before .before .before .before .before .before .before
+abbrev turn : tie.After-row-line-arg4 Inv-loop μ-loop → tie.In-loop Inv-loop μ-loop
+turn c = c .before .before .before .before
+
+abbrev lined : tie.After-slice-known8 Inv-loop μ-loop → tie.After-row-line Inv-loop μ-loop
+lined c = c .before .before .before .before .before .before .before .before
+
+-- the row stands within the board's cells
+inside : (c : tie.In-loop Inv-loop μ-loop) → let a = at-start (c .before) .args in
+    let w = length (a .values .now) in
+    c .before .loop .y * w + w ≤ w * a .h
+inside c = row-ends (length (at-start (c .before) .args .values .now)) refl (c .loop-test .taken)
 
 loop-holds : tie.Need-loop-holds Inv-loop μ-loop
 loop-holds c =
@@ -41,18 +47,14 @@ loop-holds c =
     }
 
 mul-at : tie.Need-mul-at Inv-loop μ-loop
-mul-at c = omega (arith, inside c, c .before .before .before .before .before .before .before .pre .3)
+mul-at c = omega (arith, inside c, at-start (c .before) .pre .3)
 
 add-end : tie.Need-add-end Inv-loop μ-loop
-add-end c = omega (arith, inside c, c .before .before .before .before .before .before .before .pre .3)
+add-end c = omega (arith, inside c, at-start (c .before) .pre .3)
 
 mul-row-line : tie.Need-mul-row-line Inv-loop μ-loop
 mul-row-line c =
-    omega (
-      arith,
-      inside (c .before .before),
-      c .before .before .before .before .before .before .before .before .before .pre .3,
-    )
+    let t = c .before .before in omega (arith, inside t, at-start (t .before) .pre .3)
 
 sub-row-line : tie.Need-sub-row-line Inv-loop μ-loop
 sub-row-line c = omega arith
@@ -66,11 +68,7 @@ part-row-line-end c =
 
 mul-row-line-2 : tie.Need-mul-row-line-2 Inv-loop μ-loop
 mul-row-line-2 c =
-    omega (
-      arith,
-      inside (c .before .before .before),
-      c .before .before .before .before .before .before .before .before .before .before .pre .4,
-    )
+    let t = c .before .before .before in omega (arith, inside t, at-start (t .before) .pre .4)
 
 sub-row-line-2 : tie.Need-sub-row-line-2 Inv-loop μ-loop
 sub-row-line-2 c = omega arith
@@ -84,9 +82,9 @@ part-row-line-end-2 c =
 
 row-line-requires : tie.Need-row-line-requires Inv-loop μ-loop
 row-line-requires c κs =
-    let l = c .before .before .before .before in
+    let l = turn c in
     let i = l .before .loop .inv in
-    let s = l .before .before .before .before .before .before .before in
+    let s = at-start (l .before) in
     let w = length (s .args .values .now) in
     let t = l .loop-test .taken in
     rw (i .values-long) (
@@ -99,15 +97,15 @@ row-line-requires c κs =
     )
 
 add-y : tie.Need-add-y Inv-loop μ-loop
-add-y c = omega (arith, turn c .loop-test .taken)
+add-y c = omega (arith, turn (lined c .before) .loop-test .taken)
 
 loop-less : tie.Need-loop-less Inv-loop μ-loop
-loop-less c = omega (arith, turn c .loop-test .taken)
+loop-less c = omega (arith, turn (lined c .before) .loop-test .taken)
 
 loop-again : tie.Need-loop-again Inv-loop μ-loop
 loop-again c =
-    let l = turn c in
-    let m = c .before .before .before .before .before .before .before .before .row-line in
+    let l = turn (lined c .before) in
+    let m = lined c .row-line in
     crossing-more (m .last .1 .1 .1 .1 .1 .1 .0) (m .last .1 .1 .1 .1 .1 .1 .1 .0) (l .before .loop .inv)
     (l .loop-test .taken) (m .ensures)
     (m .kept .1 .1 .1 .1 .0) (m .kept .1 .1 .1 .1 .1 .0) (m .kept .1 .1 .1 .1 .1 .1 .0)
@@ -118,15 +116,15 @@ same-length c = c .before .loop .inv .values-long
 
 same-length-2 : tie.Need-same-length-2 Inv-loop μ-loop
 same-length-2 c =
-    c .before .loop .inv .scratch-long ∙ sym (c .before .before .before .before .before .before .before .pre .2)
+    c .before .loop .inv .scratch-long ∙ sym (at-start (c .before) .pre .2)
 
 same-length-3 : tie.Need-same-length-3 Inv-loop μ-loop
 same-length-3 c =
-    c .before .loop .inv .distances-long ∙ sym (c .before .before .before .before .before .before .before .pre .3)
+    c .before .loop .inv .distances-long ∙ sym (at-start (c .before) .pre .3)
 
 same-length-4 : tie.Need-same-length-4 Inv-loop μ-loop
 same-length-4 c =
-    c .before .loop .inv .sites-long ∙ sym (c .before .before .before .before .before .before .before .pre .4)
+    c .before .loop .inv .sites-long ∙ sym (at-start (c .before) .pre .4)
 
 returns : tie.Need-returns Inv-loop μ-loop
 returns c = λ j l. c .before .loop .inv .made j (omega arith)

@@ -16,6 +16,10 @@ Inv-loop g y costs words values₀ w i₀ values i =
 abbrev μ-loop : tie.MeasureT-loop
 μ-loop g y costs words values₀ w i₀ values i = length words - i
 
+-- the way back from a turn of the loop to the start
+abbrev at-start : tie.In-loop Inv-loop μ-loop → tie.Start Inv-loop μ-loop
+at-start c = c .before .before .before .before .before
+
 loop-holds : tie.Need-loop-holds Inv-loop μ-loop
 loop-holds c = (filling-none, omega arith)
 
@@ -27,19 +31,14 @@ shared-slice-read-column-value c = omega arith
 
 column-value-requires : tie.Need-column-value-requires Inv-loop μ-loop
 column-value-requires c κs =
-    let p = c .before .before .before .before .before .before .pre in
+    let p = at-start (c .before) .pre in
     (p .0, p .1, p .3 (c .before .before .loop .i) (c .before .loop-test .taken))
 
 mul-values : tie.Need-mul-values Inv-loop μ-loop
 mul-values c = omega arith
 
 slice-write-values : tie.Need-slice-write-values Inv-loop μ-loop
-slice-write-values c =
-    omega (
-      arith,
-      c .before .before .before .loop .inv .0 .as-long,
-      c .before .before .before .before .before .before .before .pre .2,
-    )
+slice-write-values c = omega (arith, c .before .before .before .loop .inv .0 .as-long, at-start (c .before .before) .pre .2)
 
 add-i : tie.Need-add-i Inv-loop μ-loop
 add-i c = omega arith
@@ -50,7 +49,7 @@ loop-less c = omega arith
 loop-again : tie.Need-loop-again Inv-loop μ-loop
 loop-again c = (
   filling-more (c .before .before .before .loop .inv .0)
-      (omega (arith, c .before .before .before .before .before .before .before .pre .2)) (c .column-value .ensures),
+      (omega (arith, at-start (c .before .before) .pre .2)) (c .column-value .ensures),
   omega arith,
 )
 

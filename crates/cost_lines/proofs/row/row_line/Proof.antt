@@ -11,8 +11,8 @@ use Rattle.cost_lines.proofs.RowLine.{believed, priced-part, line-read,
 use Rattle.cost_lines.proofs.row.row_line.Statement.{statement}
 use Rattle.cost_lines.proofs.row.row_line.Tie as tie
 
--- the ways back: from the lists that are known to the start, from the filled line to the start, and from what comes of it
--- to the filled line
+-- the ways back: from the lists that are known to the start, from the filled line to the start, from what is lent to the
+-- line's map to the filled line, and from the end to the line's map
 abbrev known : tie.After-slice-known4 → tie.Start
 known c = c .before .before .before .before .before
 
@@ -21,6 +21,9 @@ at-start c = known (c .before .before .before .before)
 
 abbrev filled : tie.After-line-out-arg4 → tie.After-fill
 filled c = c .before .before .before .before .before .before
+
+abbrev lined : tie.After-slice-known8 → tie.After-line-out
+lined c = c .before .before .before .before .before .before
 
 -- the row's words can be believed
 trust : (c : tie.Start) → let w = length (c .args .values .now) in
@@ -91,7 +94,7 @@ same-length-4 c = search needs
 
 returns : tie.Need-returns
 returns c =
-    let o = c .before .before .before .before .before .before in
+    let o = lined c in
     let f = filled (o .before) in
     let s = at-start f in
     row-more (s .args .scratch .now) (s .pre .0) (s .pre .1) (s .pre .2) (s .pre .3) (f .fill .kept .1 .1 .1 .1 .0)

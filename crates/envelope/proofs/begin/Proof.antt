@@ -7,6 +7,10 @@ use borrow.Author.Needs.{needs}
 use Rattle.envelope.proofs.begin.Statement.{statement}
 use Rattle.envelope.proofs.begin.Tie as tie
 
+-- the way back from the holder that is read to the start
+abbrev at-start : tie.After-as-index → tie.Start
+at-start c = c .before .before .before .before .before
+
 returns : tie.Need-returns
 returns c = search needs
 
@@ -26,14 +30,17 @@ as-index-requires : tie.Need-as-index-requires
 as-index-requires c κs = search needs
 
 place-requires : tie.Need-place-requires
-place-requires c κs = let p = c .before .before .before .before .before .pre in
-    let k = c .before .before .before .before .before .args .kept - 1 in
-    let e : k + 1 ≡ c .before .before .before .before .before .args .kept = omega arith in
+place-requires c κs =
+    let p = at-start c .pre in
+    let k = at-start c .args .kept - 1 in
+    let e : k + 1 ≡ at-start c .args .kept = omega arith in
     let is = c .as-index .ensures in
     (p .0 .gauged, rw is (p .3 .before k e), p .1, rw is (p .3 .first k e))
 
 returns-2 : tie.Need-returns-2
-returns-2 c = begins-after (c .before .before .before .before .before .before .args .work .now) (c .before .before .before .if1 .left) (c .before .as-index .ensures) (c .place .ensures)
+returns-2 c =
+    let r = c .before in
+    begins-after (at-start r .args .work .now) (r .before .before .if1 .left) (r .as-index .ensures) (c .place .ensures)
 
 pub begin-spec : {M : Type 1} → statement M
 begin-spec =

@@ -14,11 +14,19 @@ Inv-loop work m winners₀ n q₀ x₀ winners q x = Spreading work m (length wi
 abbrev μ-loop : tie.MeasureT-loop
 μ-loop work m winners₀ n q₀ x₀ winners q x = x
 
+-- the ways back: from a turn of the loop to the start, and from the stretch's start that is read to its turn
+abbrev at-start : tie.In-loop Inv-loop μ-loop → tie.Start Inv-loop μ-loop
+at-start c = c .before .before .before .before
+
+abbrev turn : tie.After-as-index Inv-loop μ-loop → tie.In-loop Inv-loop μ-loop
+turn c = c .before .before .before
+
 -- what is known in the loop: the scan has so many stretches left, each within the work words
-abbrev within : (c : tie.In-loop Inv-loop μ-loop) → (1 ≤ c .before .loop .q) × (c .before .loop .q ≤ length (c .before .before .before .before .args .winners .now))
+abbrev within : (c : tie.In-loop Inv-loop μ-loop) →
+    (1 ≤ c .before .loop .q) × (c .before .loop .q ≤ length (at-start c .args .winners .now))
 within c =
     let i = c .before .loop .inv in
-    let p = c .before .before .before .before .pre in
+    let p = at-start c .pre in
     (i .some (c .loop-test .taken), omega (arith, i .most, p .most))
 
 loop-holds : tie.Need-loop-holds Inv-loop μ-loop
@@ -58,19 +66,25 @@ as-index-requires : tie.Need-as-index-requires Inv-loop μ-loop
 as-index-requires c κs = tt
 
 sub-q : tie.Need-sub-q Inv-loop μ-loop
-sub-q c = c .before .before .before .before .before .loop .inv .some (c .before .before .before .before .loop-test .taken)
+sub-q c = let t = turn (c .before) in t .before .loop .inv .some (t .loop-test .taken)
 
 loop-less : tie.Need-loop-less Inv-loop μ-loop
 loop-less c = omega arith
 
 loop-again : tie.Need-loop-again Inv-loop μ-loop
-loop-again c = spread-start-of (c .before .before .before .before .before .before .before .before .pre) (c .before .before .before .before .before .loop .inv) (c .before .before .before .before .loop-test .taken) (sym (c .before .as-index .ensures) ∙ c .if1 .taken)
+loop-again c =
+    let t = turn (c .before) in
+    spread-start-of (at-start t .pre) (t .before .loop .inv) (t .loop-test .taken)
+    (sym (c .before .as-index .ensures) ∙ c .if1 .taken)
 
 loop-less-2 : tie.Need-loop-less-2 Inv-loop μ-loop
 loop-less-2 c = omega arith
 
 loop-again-2 : tie.Need-loop-again-2 Inv-loop μ-loop
-loop-again-2 c = spread-within (c .before .before .before .before .before .before .before .before .pre) (c .before .before .before .before .before .loop .inv) (c .before .before .before .before .loop-test .taken) (λ e. c .if1 .left (c .before .as-index .ensures ∙ e))
+loop-again-2 c =
+    let t = turn (c .before) in
+    spread-within (at-start t .pre) (t .before .loop .inv) (t .loop-test .taken)
+    (λ e. c .if1 .left (c .before .as-index .ensures ∙ e))
 
 same-length : tie.Need-same-length Inv-loop μ-loop
 same-length c = c .before .loop .inv .as-long

@@ -7,6 +7,13 @@ use borrow.Author.Needs.{needs}
 use Rattle.envelope.proofs.stays.Statement.{statement}
 use Rattle.envelope.proofs.stays.Tie as tie
 
+-- the ways back: from the stretch's start that is read to the function's, and from the first height to the stretch's start
+abbrev at-start : tie.After-as-index → tie.Start
+at-start c = c .before .before .before .before
+
+abbrev read : tie.After-height → tie.After-as-index
+read c = c .before .before .before
+
 mul-as-index : tie.Need-mul-as-index
 mul-as-index c = search needs
 
@@ -32,13 +39,18 @@ height-requires : tie.Need-height-requires
 height-requires c κs = search needs
 
 height-requires-2 : tie.Need-height-requires-2
-height-requires-2 c κs = let p = c .before .before .before .before .before .before .before .pre in
-    (p .0 .gauged, p .1, omega (arith, c .before .before .before .as-index .ensures))
+height-requires-2 c κs =
+    let p = at-start (read c) .pre in
+    (p .0 .gauged, p .1, omega (arith, read c .as-index .ensures))
 
 returns : tie.Need-returns
-returns c = ap₂ leb
-    (c .before .height .ensures ∙ ap₂ (height-at (c .before .before .before .before .before .before .before .before .args .g) (c .before .before .before .before .before .before .before .before .args .values .now)) (c .before .before .as-index2 .ensures) (c .before .before .before .before .as-index .ensures))
-    (c .height2 .ensures ∙ ap (height-at (c .before .before .before .before .before .before .before .before .args .g) (c .before .before .before .before .before .before .before .before .args .values .now) (c .before .before .before .before .before .before .before .before .args .u)) (c .before .before .before .before .as-index .ensures))
+returns c =
+    let r = read (c .before) in
+    let a = at-start r .args in
+    let is = r .as-index .ensures in
+    ap₂ leb
+    (c .before .height .ensures ∙ ap₂ (height-at (a .g) (a .values .now)) (c .before .before .as-index2 .ensures) is)
+    (c .height2 .ensures ∙ ap (height-at (a .g) (a .values .now) (a .u)) is)
 
 pub stays-spec : {M : Type 1} → statement M
 stays-spec =

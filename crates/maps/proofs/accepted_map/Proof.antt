@@ -7,12 +7,18 @@ use borrow.Author.Needs.{needs}
 use Rattle.maps.proofs.accepted_map.Statement.{statement}
 use Rattle.maps.proofs.accepted_map.Tie as tie
 
--- the ways back from the kind's test to the start
+-- the ways back: from the kind's test to the start, and from the end to the map that is made
 abbrev chamfer : tie.Then1 → tie.Start
 chamfer c = c .before .before .before .before .before .before .before .before
 
 abbrev other : tie.Else1 → tie.Start
 other c = c .before .before .before .before .before .before .before .before
+
+abbrev scanned : tie.After-slice-known6 → tie.After-scanned-map
+scanned c = c .before .before .before .before .before .before
+
+abbrev mapped : tie.After-slice-known9 → tie.After-row-map
+mapped c = c .before .before .before .before .before .before
 
 cast-w : tie.Need-cast-w
 cast-w c = search needs
@@ -40,7 +46,7 @@ same-length-3 c = search needs
 
 returns : tie.Need-returns
 returns c =
-    let m = c .before .before .before .before .before .before in
+    let m = scanned c in
     let t = m .before .before .before .before in
     rw (t .if1 .taken) (m .scanned-map .ensures)
 
@@ -70,7 +76,7 @@ same-length-6 c = search needs
 
 returns-2 : tie.Need-returns-2
 returns-2 c =
-    let m = c .before .before .before .before .before .before in
+    let m = mapped c in
     let a = other (m .before .before .before .before) .args .a in
     m .row-map .ensures (a .d1) (a .d2)
 

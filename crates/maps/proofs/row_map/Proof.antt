@@ -5,12 +5,16 @@ use borrow.Author.Needs.{needs}
 use Rattle.maps.proofs.row_map.Statement.{statement}
 use Rattle.maps.proofs.row_map.Tie as tie
 
--- the ways back: from the swept words to the start, and from the rows to the swept words
+-- the ways back: from the swept words to the start, from the rows to the swept words, and from the scratch's count to the
+-- rows
 abbrev at-start : tie.After-sweep → tie.Start
 at-start c = c .before .before .before .before .before .before
 
 abbrev swept : tie.After-all-rows → tie.After-sweep
 swept c = c .before .before .before .before .before .before
+
+abbrev lined : tie.After-scratch-words → tie.After-all-rows
+lined c = c .before .before .before .before .before .before .before .before
 
 sweep-requires : tie.Need-sweep-requires
 sweep-requires c κs = search needs
@@ -46,7 +50,7 @@ returns : tie.Need-returns
 returns c =
     let zeros = c .before .before in
     let words = zeros .before in
-    let r = words .before .before .before .before .before .before .before .before in
+    let r = lined words in
     let s = swept r in
     let z = rw (words .scratch-words .ensures) at (zeros .set-front .ensures) in
     rows-after (at-start s .pre .1) (s .sweep .ensures) (at-start s .pre .0) (r .all-rows .ensures) (z .0) (z .1)

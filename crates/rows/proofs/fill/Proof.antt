@@ -15,6 +15,10 @@ Inv-loop g y words values₀ i₀ values i =
 abbrev μ-loop : tie.MeasureT-loop
 μ-loop g y words values₀ i₀ values i = length words - i
 
+-- the way back from a turn of the loop to the start
+abbrev at-start : tie.In-loop Inv-loop μ-loop → tie.Start Inv-loop μ-loop
+at-start c = c .before .before .before .before
+
 loop-holds : tie.Need-loop-holds Inv-loop μ-loop
 loop-holds c = (filling-none, omega arith)
 
@@ -25,14 +29,15 @@ shared-slice-read-value : tie.Need-shared-slice-read-value Inv-loop μ-loop
 shared-slice-read-value c = omega arith
 
 value-requires : tie.Need-value-requires Inv-loop μ-loop
-value-requires c κs = let p = c .before .before .before .before .before .pre in
+value-requires c κs =
+    let p = at-start (c .before) .pre in
     (p .0, p .1, p .3 (c .before .before .loop .i) (c .before .loop-test .taken))
 
 mul-values : tie.Need-mul-values Inv-loop μ-loop
 mul-values c = omega arith
 
 slice-write-values : tie.Need-slice-write-values Inv-loop μ-loop
-slice-write-values c = omega (arith, c .before .before .before .loop .inv .0 .as-long, c .before .before .before .before .before .before .pre .2)
+slice-write-values c = omega (arith, c .before .before .before .loop .inv .0 .as-long, at-start (c .before .before) .pre .2)
 
 add-i : tie.Need-add-i Inv-loop μ-loop
 add-i c = omega arith
@@ -41,7 +46,8 @@ loop-less : tie.Need-loop-less Inv-loop μ-loop
 loop-less c = omega arith
 
 loop-again : tie.Need-loop-again Inv-loop μ-loop
-loop-again c = let p = c .before .before .before .before .before .before .pre in
+loop-again c =
+    let p = at-start (c .before .before) .pre in
     (filling-more (c .before .before .before .loop .inv .0) (omega (arith, p .2)) (c .value .ensures), omega arith)
 
 same-length : tie.Need-same-length Inv-loop μ-loop

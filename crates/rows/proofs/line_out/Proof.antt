@@ -9,9 +9,13 @@ use Rattle.rows.proofs.RowLine.{words-part, tail-length, words-stay, ga
 use Rattle.rows.proofs.line_out.Statement.{statement}
 use Rattle.rows.proofs.line_out.Tie as tie
 
--- the ways back: from the winners to the start, from the map words to the winners, and from the sites to the map words
+-- the ways back: from the lists that are known to the start, from the winners to the start, from the map words to the
+-- winners, and from the sites to the map words
+abbrev known : tie.After-slice-known3 → tie.Start
+known c = c .before .before .before .before
+
 abbrev at-start : tie.After-winners-of → tie.Start
-at-start c = c .before .before .before .before .before .before .before
+at-start c = known (c .before .before .before)
 
 abbrev won : tie.After-write-distances-arg2 → tie.After-winners-of
 won c = c .before .before .before .before .before .before
@@ -53,7 +57,7 @@ part-winners-of-end c = search needs
 
 winners-of-requires : tie.Need-winners-of-requires
 winners-of-requires c κs =
-    let p = c .before .before .before .before .before .before .pre in
+    let p = known (c .before .before) .pre in
     (record { gauged = gauged (p .0); room = tail-length (p .0 .believed) }, p .2)
 
 write-distances-requires : tie.Need-write-distances-requires

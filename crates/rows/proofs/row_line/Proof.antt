@@ -8,12 +8,19 @@ use Rattle.rows.proofs.RowLine.{words-part, words-length, words-named, 
 use Rattle.rows.proofs.row_line.Statement.{statement}
 use Rattle.rows.proofs.row_line.Tie as tie
 
--- the ways back: from the filled line to the start, and from what comes of it to the filled line
-abbrev at-start : tie.After-fill → tie.Start
-at-start c = c .before .before .before .before .before .before .before .before
+-- the ways back: from the lists that are known to the start, from the filled line to the start, from what is lent to the
+-- line's map to the filled line, and from the end to the line's map
+abbrev known : tie.After-slice-known4 → tie.Start
+known c = c .before .before .before .before
 
-abbrev filled : tie.After-line-out → tie.After-fill
-filled c = c .before .before .before .before .before .before .before
+abbrev at-start : tie.After-fill → tie.Start
+at-start c = known (c .before .before .before .before)
+
+abbrev filled : tie.After-line-out-arg4 → tie.After-fill
+filled c = c .before .before .before .before .before .before
+
+abbrev lined : tie.After-slice-known8 → tie.After-line-out
+lined c = c .before .before .before .before .before .before
 
 -- the scratch is asked for a line as long as the filled one
 believed : (c : tie.After-fill) → let a = at-start c .args in
@@ -42,12 +49,12 @@ part-fill-end c = search needs
 
 fill-requires : tie.Need-fill-requires
 fill-requires c κs =
-    let p = c .before .before .before .before .before .before .before .pre in
+    let p = known (c .before .before .before) .pre in
     (p .0 .parts, p .1, sym (words-length (p .0)), words-named (p .0))
 
 line-out-requires : tie.Need-line-out-requires
 line-out-requires c κs =
-    let f = c .before .before .before .before .before .before in
+    let f = filled c in
     let p = at-start f .pre in
     let long = sym (f .fill .kept .1 .1 .1 .0) in
     (line-read (believed f) (p .1) (made f), p .2 ∙ long, p .3 ∙ long)
@@ -66,8 +73,8 @@ same-length-4 c = search needs
 
 returns : tie.Need-returns
 returns c =
-    let o = c .before .before .before .before .before .before in
-    let f = filled o in
+    let o = lined c in
+    let f = filled (o .before) in
     rw (f .fill .kept .1 .1 .1 .0) at (row-made (believed f) (at-start f .pre .1) (made f) (o .line-out .ensures))
 
 pub row-line-spec : {M : Type 1} → statement M

@@ -10,6 +10,17 @@ use Rattle.chamfer_turn.proofs.Taking.{off-column, off-row, taken, kept
 use Rattle.chamfer_turn.proofs.lesser.Statement.{statement}
 use Rattle.chamfer_turn.proofs.lesser.Tie as tie
 
+-- the ways back: from the step that is read to the start, from where it leads across to the step, and from where it leads
+-- down to where it leads across
+abbrev at-start : tie.After-step-at → tie.Start
+at-start c = c .before .before
+
+abbrev read : tie.After-moved → tie.After-step-at
+read c = c .before .before
+
+abbrev crossed : tie.After-moved2 → tie.After-moved
+crossed c = c .before .before .before
+
 step-at-requires : tie.Need-step-at-requires
 step-at-requires c κs = search needs
 
@@ -17,66 +28,62 @@ step-at-requires c κs = search needs
 steps-in : (c : tie.After-step-at)
     → (natAbs (c .step-at .result .0) ≤ 1) × (natAbs (c .step-at .result .1) ≤ 1) × (1 ≤ c .step-at .result .2)
 steps-in c =
-    let s = c .before .before in
+    let s = at-start c in
     let n = known (s .args .k) (s .pre .3) in
     rw (c .step-at .ensures) (n .rows, n .columns, n .chosen)
 
 moved-requires : tie.Need-moved-requires
 moved-requires c κs =
-    let s = c .before .before .before in
+    let s = at-start (c .before) in
     let l = steps-in (c .before) .1 in
     (s .pre .2 .column-in, s .pre .0 .sides .width-to, rw (as-read _ l) l)
 
 -- where it leads across
-across : (c : tie.After-moved)
-    → let s = c .before .before .before .before .args in
-    Moved (s .x) (c .before .before .step-at .result .1) (s .b .w) (c .moved .result)
-across c = rw (as-read _ (steps-in (c .before .before) .1)) at (c .moved .ensures)
+across : (c : tie.After-moved) → let s = at-start (read c) .args in
+    Moved (s .x) (read c .step-at .result .1) (s .b .w) (c .moved .result)
+across c = rw (as-read _ (steps-in (read c) .1)) at (c .moved .ensures)
 
 returns : tie.Need-returns
-returns c = off-column (c .before .before .before .step-at .ensures) _ _ (across (c .before)) (omega arith)
+returns c = off-column (read (c .before) .step-at .ensures) _ _ (across (c .before)) (omega arith)
 
 moved-requires-2 : tie.Need-moved-requires-2
 moved-requires-2 c κs =
-    let s = c .before .before .before .before .before .before in
-    let l = steps-in (c .before .before .before .before) .0 in
+    let r = read (c .before .before) in
+    let s = at-start r in
+    let l = steps-in r .0 in
     (s .pre .2 .row-in, s .pre .0 .sides .height-to, rw (as-read _ l) l)
 
 -- where it leads down
-down : (c : tie.After-moved2)
-    → let s = c .before .before .before .before .before .before .before .args in
-    Moved (s .y) (c .before .before .before .before .before .step-at .result .0) (s .b .h) (c .moved2 .result)
-down c = rw (as-read _ (steps-in (c .before .before .before .before .before) .0)) at (c .moved2 .ensures)
+down : (c : tie.After-moved2) → let r = read (crossed c) in let s = at-start r .args in
+    Moved (s .y) (r .step-at .result .0) (s .b .h) (c .moved2 .result)
+down c = rw (as-read _ (steps-in (read (crossed c)) .0)) at (c .moved2 .ensures)
 
 returns-2 : tie.Need-returns-2
-returns-2 c =
-    off-row (c .before .before .before .before .before .before .step-at .ensures) _ _ (down (c .before)) (c .if2 .taken)
-
--- the ways back to the start and to the step
-abbrev start : tie.Else2 → tie.Start
-start c = c .before .before .before .before .before .before .before .before
-
-abbrev read : tie.Else2 → tie.After-step-at
-read c = c .before .before .before .before .before .before
+returns-2 c = off-row (read (crossed (c .before)) .step-at .ensures) _ _ (down (c .before)) (c .if2 .taken)
 
 -- it leads to a cell of the board
-there : (c : tie.Else2)
-    → On (start c .args .b) (c .before .before .before .before .moved .result) (c .before .moved2 .result)
+there : (c : tie.Else2) → let m = crossed (c .before) in
+    On (at-start (read m) .args .b) (m .moved .result) (c .before .moved2 .result)
 there c = record { column-in = c .before .before .before .if1 .left; row-in = c .if2 .left }
 
 offer-of-requires : tie.Need-offer-of-requires
-offer-of-requires c κs = (start c .pre .0, start c .pre .1, there c, steps-in (read c) .2)
+offer-of-requires c κs =
+    let r = read (crossed (c .before)) in
+    let p = at-start r .pre in
+    (p .0, p .1, there c, steps-in r .2)
 
 returns-3 : tie.Need-returns-3
 returns-3 c =
     let e = c .before .before in
-    taken (read e .step-at .ensures) _ (across (e .before .before .before .before)) (down (e .before)) (there e)
+    let m = crossed (e .before) in
+    taken (read m .step-at .ensures) _ (across m) (down (e .before)) (there e)
     (c .before .offer-of .ensures) (c .if3 .taken)
 
 returns-4 : tie.Need-returns-4
 returns-4 c =
     let e = c .before .before in
-    kept (read e .step-at .ensures) _ (across (e .before .before .before .before)) (down (e .before)) (there e)
+    let m = crossed (e .before) in
+    kept (read m .step-at .ensures) _ (across m) (down (e .before)) (there e)
     (c .before .offer-of .ensures) (c .if3 .left)
 
 pub lesser-spec : {M : Type 1} → statement M

@@ -15,6 +15,13 @@ Inv-loop w start y a b picture words₀ above x₀ words x =
 abbrev μ-loop : tie.MeasureT-loop
 μ-loop w start y a b picture words₀ above x₀ words x = b - x
 
+-- the ways back: from a turn of the loop to the start, and from the word that is carried to its turn
+abbrev at-start : tie.In-loop Inv-loop μ-loop → tie.Start Inv-loop μ-loop
+at-start c = c .before .before .before .before
+
+abbrev turn : tie.After-carried Inv-loop μ-loop → tie.In-loop Inv-loop μ-loop
+turn c = c .before .before .before
+
 sub-above : tie.Need-sub-above Inv-loop μ-loop
 sub-above c = omega arith
 
@@ -56,9 +63,10 @@ loop-less c = omega arith
 
 loop-again : tie.Need-loop-again Inv-loop μ-loop
 loop-again c =
-    let begun = c .before .before .before .before .before .before .before in
-    stepped (begun .args .picture .now) (begun .pre .1) (begun .pre .2) (c .before .before .before .before .loop .inv)
-    (c .before .before .before .loop-test .taken) (omega arith) (c .carried .ensures)
+    let t = turn c in
+    let s = at-start t in
+    stepped (s .args .picture .now) (s .pre .1) (s .pre .2) (t .before .loop .inv) (t .loop-test .taken) (omega arith)
+    (c .carried .ensures)
 
 same-length : tie.Need-same-length Inv-loop μ-loop
 same-length c = c .before .loop .inv .done .as-long

@@ -13,15 +13,17 @@ Inv-loop w h a b picture words₀ start₀ y₀ words start y = Lowering w h a b
 abbrev μ-loop : tie.MeasureT-loop
 μ-loop w h a b picture words₀ start₀ y₀ words start y = w * h - start
 
--- the function's entry, from the loop
-abbrev at-start : tie.At-loop Inv-loop μ-loop → tie.Start Inv-loop μ-loop
-at-start c = c .before .before .before .before .before .before .before
+-- the ways back: from the top row to the start, from the loop to the top row and so to the start, and from the end of a turn
+-- to its beginning
+abbrev begun : tie.After-top-row Inv-loop μ-loop → tie.Start Inv-loop μ-loop
+begun c = c .before .before .before .before
 
--- the call that did the top row, from the loop
 abbrev topped : tie.At-loop Inv-loop μ-loop → tie.After-top-row Inv-loop μ-loop
 topped c = c .before .before .before
 
--- the turn of the loop, from its end
+abbrev at-start : tie.At-loop Inv-loop μ-loop → tie.Start Inv-loop μ-loop
+at-start c = begun (topped c)
+
 abbrev turn : tie.After-slice-known3 Inv-loop μ-loop → tie.In-loop Inv-loop μ-loop
 turn c = c .before .before .before .before
 
@@ -35,7 +37,7 @@ top-row-requires c κs =
     let p = c .before .before .before .pre in omega (arith, p .0 .ordered, top-inside (p .0))
 
 loop-holds : tie.Need-loop-holds Inv-loop μ-loop
-loop-holds c = lowering-start (c .before .before .before .before .before .before .pre .0)
+loop-holds c = lowering-start (begun (c .before .before) .pre .0)
 
 down-row-requires : tie.Need-down-row-requires Inv-loop μ-loop
 down-row-requires c κs =

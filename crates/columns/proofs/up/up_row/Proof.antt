@@ -14,6 +14,13 @@ Inv-loop w start y a b words₀ below x₀ words x = Filling start a b (Lifted s
 abbrev μ-loop : tie.MeasureT-loop
 μ-loop w start y a b words₀ below x₀ words x = b - x
 
+-- the ways back: from a turn of the loop to the start, and from the nearer word to its turn
+abbrev at-start : tie.In-loop Inv-loop μ-loop → tie.Start Inv-loop μ-loop
+at-start c = c .before .before .before
+
+abbrev turn : tie.After-nearer Inv-loop μ-loop → tie.In-loop Inv-loop μ-loop
+turn c = c .before .before .before
+
 add-below : tie.Need-add-below Inv-loop μ-loop
 add-below c = omega arith
 
@@ -58,8 +65,8 @@ loop-less c = omega arith
 
 loop-again : tie.Need-loop-again Inv-loop μ-loop
 loop-again c =
-    lifted (c .before .before .before .before .before .before .pre .1) (c .before .before .before .before .loop .inv)
-    (c .before .before .before .loop-test .taken) (omega arith) (c .nearer .ensures)
+    let t = turn c in
+    lifted (at-start t .pre .1) (t .before .loop .inv) (t .loop-test .taken) (omega arith) (c .nearer .ensures)
 
 same-length : tie.Need-same-length Inv-loop μ-loop
 same-length c = c .before .loop .inv .done .as-long

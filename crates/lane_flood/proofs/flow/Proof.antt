@@ -18,9 +18,12 @@ Inv-loop w v words labels₀ queue₀ head₀ tail₀ labels queue head tail =
 abbrev μ-loop : tie.MeasureT-loop
 μ-loop w v words labels₀ queue₀ head₀ tail₀ labels queue head tail = length words - head
 
--- the way back from the loop to the start
+-- the ways back: from the loop to the start, and from the spread to its turn
 abbrev at-start : tie.At-loop Inv-loop μ-loop → tie.Start Inv-loop μ-loop
 at-start c = c .before .before .before .before
+
+abbrev turn : tie.After-spread Inv-loop μ-loop → tie.In-loop Inv-loop μ-loop
+turn c = c .before .before .before
 
 loop-holds : tie.Need-loop-holds Inv-loop μ-loop
 loop-holds c = let p = c .before .before .before .pre in (p .0, p .1)
@@ -33,18 +36,18 @@ spread-requires c κs =
 
 add-head : tie.Need-add-head Inv-loop μ-loop
 add-head c =
-    let l = c .before .before .before .before .before .before .before in
+    let l = turn (c .before .before .before .before) in
     omega (arith, at-start (l .before) .pre .0 .board .to, l .loop-test .taken, queue-few (l .before .loop .inv .1))
 
 loop-less : tie.Need-loop-less Inv-loop μ-loop
 loop-less c =
-    let l = c .before .before .before .before .before .before .before in
+    let l = turn (c .before .before .before .before) in
     omega (arith, l .loop-test .taken, queue-few (l .before .loop .inv .1))
 
 loop-again : tie.Need-loop-again Inv-loop μ-loop
 loop-again c =
     let t = c .before .before .before .before in
-    let l = t .before .before .before .before in
+    let l = turn t .before in
     let i = l .loop .inv in (
       lists-kept (at-start l .args .words .now) (l .loop .labels) (l .loop .queue) _ _ (i .0) (t .spread .kept .1 .1 .1 .0)
           (t .spread .kept .1 .1 .1 .1 .0),

@@ -17,9 +17,12 @@ Inv-loop w v words labels₀ queue₀ head entered n c d x tail₀ k₀ labels q
 abbrev μ-loop : tie.MeasureT-loop
 μ-loop w v words labels₀ queue₀ head entered n c d x tail₀ k₀ labels queue tail k = 4 - k
 
--- the way back from the head's cell to the start
+-- the ways back: from the head's cell to the start, and from a cell that is touched to its turn
 abbrev at-start : tie.After-as-index Inv-loop μ-loop → tie.Start Inv-loop μ-loop
 at-start c = c .before .before .before .before .before
+
+abbrev turn : tie.After-touch Inv-loop μ-loop → tie.In-loop Inv-loop μ-loop
+turn c = c .before .before .before .before
 
 -- the head's cell is a cell, and has a label
 abbrev cell-read : (c : tie.After-as-index Inv-loop μ-loop) → let a = at-start c .args in
@@ -69,15 +72,15 @@ touch-requires c κs =
     )
 
 add-k : tie.Need-add-k Inv-loop μ-loop
-add-k c = omega (arith, c .before .before .before .before .before .before .before .before .loop-test .taken)
+add-k c = omega (arith, turn (c .before .before .before .before) .loop-test .taken)
 
 loop-less : tie.Need-loop-less Inv-loop μ-loop
-loop-less c = omega (arith, c .before .before .before .before .before .before .before .before .loop-test .taken)
+loop-less c = omega (arith, turn (c .before .before .before .before) .loop-test .taken)
 
 loop-again : tie.Need-loop-again Inv-loop μ-loop
 loop-again c =
     let t = c .before .before .before .before in
-    let l = t .before .before .before .before in
+    let l = turn t in
     touched (l .before .loop .inv) (at-start (l .before .before .before) .pre .0 .board .from) (omega (arith, l .loop-test .taken))
     (t .before .before .before .beside .ensures) (t .touch .ensures)
 

@@ -6,6 +6,10 @@ use Rattle.lane_search.proofs.Lanes.{flood-answers}
 use Rattle.lane_search.proofs.widths.reaches.Statement.{statement}
 use Rattle.lane_search.proofs.widths.reaches.Tie as tie
 
+-- the way back from the flood to the start
+abbrev at-start : tie.After-flood → tie.Start
+at-start c = c .before .before .before .before .before .before
+
 flood-requires : tie.Need-flood-requires
 flood-requires c κs = search needs
 
@@ -24,7 +28,7 @@ same-length-2 c = search needs
 returns : tie.Need-returns
 returns c =
     let t = c .before .before .before .before .before in
-    flood-answers (t .flood .ensures) (t .before .before .before .before .before .before .pre .1) refl
+    flood-answers (t .flood .ensures) (at-start t .pre .1) refl
 
 pub reaches-spec : {M : Type 1} → statement M
 reaches-spec =

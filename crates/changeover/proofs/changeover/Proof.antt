@@ -11,16 +11,23 @@ use borrow.Author.Needs.{needs}
 use Rattle.changeover.proofs.changeover.Statement.{statement}
 use Rattle.changeover.proofs.changeover.Tie as tie
 
+-- the ways back: from past the four tests to the start, and from the squares to past the tests
+abbrev at-start : tie.Else4 → tie.Start
+at-start c = c .before .before .before .before
+
+abbrev tested : tie.After-square2 → tie.Else4
+tested c = c .before .before
+
 -- past the four tests the inputs are good
-good : (c : tie.Else4) → let a = c .before .before .before .before .args in Comparable (a .i) (a .u) (a .a) (a .b)
+good : (c : tie.Else4) → let a = at-start c .args in Comparable (a .i) (a .u) (a .a) (a .b)
 good c = omega arith
 
 -- what is divided, in the squares' own terms
-rounded : (c : tie.Else5) → let x = c .before .before .before .before .before .before .before .args in
+rounded : (c : tie.Else5) → let x = at-start (tested (c .before)) .args in
     (c .before .square2 .result + x .a - (c .before .before .square .result + x .b) + 2 * (x .u - x .i) - 1) / (2 * (x .u - x .i))
     ≡ (x .i * x .i + x .a - (x .u * x .u + x .b) + 2 * (x .u - x .i) - 1) / (2 * (x .u - x .i))
 rounded c =
-    let x = c .before .before .before .before .before .before .before .args in
+    let x = at-start (tested (c .before)) .args in
     ap₂ (λ i u. (i + x .a - (u + x .b) + 2 * (x .u - x .i) - 1) / (2 * (x .u - x .i)))
     (c .before .square2 .ensures .0) (c .before .before .square .ensures .0)
 
@@ -52,10 +59,10 @@ last-euclid-requires : tie.Need-last-euclid-requires
 last-euclid-requires c κs = search needs
 
 cast-t18 : tie.Need-cast-t18
-cast-t18 c = record { sfits = up-small (good (c .before .before .before .before)) (c .last-euclid .ensures) }
+cast-t18 c = record { sfits = up-small (good (tested (c .before .before))) (c .last-euclid .ensures) }
 
 returns-5 : tie.Need-returns-5
-returns-5 c = let g = good (c .before .before .before .before) in
+returns-5 c = let g = good (tested (c .before .before)) in
     rw (toZ-pos w32 (c .last-euclid .result) (up-small g (c .last-euclid .ensures)))
     (answered-up g (omega (arith, c .before .before .square2 .ensures, c .before .before .before .square .ensures)) (c .last-euclid .ensures))
 
@@ -81,15 +88,15 @@ div-below : tie.Need-div-below
 div-below c = search needs
 
 cast-t21 : tie.Need-cast-t21
-cast-t21 c = record { sfits = down-small (good (c .before .before .before)) (rounded c) }
+cast-t21 c = record { sfits = down-small (good (tested (c .before))) (rounded c) }
 
 sub-t22 : tie.Need-sub-t22
-sub-t22 c = let h = down-small (good (c .before .before .before)) (rounded c) in
+sub-t22 c = let h = down-small (good (tested (c .before))) (rounded c) in
     rw (toZ-pos w32 _ h) (below-fits _ h)
 
 returns-6 : tie.Need-returns-6
 returns-6 c =
-    let g = good (c .before .before .before) in
+    let g = good (tested (c .before)) in
     let h = down-small g (rounded c) in
     rw (toZ-pos w32 _ h, toZ-ofZ w32 _ (below-fits _ h))
     (answered-down g (omega (arith, c .before .square2 .ensures, c .before .before .square .ensures)) (rounded c))

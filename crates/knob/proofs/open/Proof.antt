@@ -8,6 +8,13 @@ use Rattle.knob.proofs.Opening.{pitch-bad, radius-bad, both-good}
 use Rattle.knob.proofs.open.Statement.{statement}
 use Rattle.knob.proofs.open.Tie as tie
 
+-- the ways back: from the pitch that is open to the start, and from the radius's opening to the open pitch
+abbrev at-start : tie.After-a → tie.Start
+at-start c = c .before .before .before
+
+abbrev pitched : tie.After-open-value2 → tie.After-a
+pitched c = c .before .before
+
 open-value-requires : tie.Need-open-value-requires
 open-value-requires c κs = search needs
 
@@ -33,15 +40,17 @@ enum-told-2 c = search needs
 
 returns-2 : tie.Need-returns-2
 returns-2 c =
-    let s = c .before .before .before .before .before .before .before .args .setting in
-    radius-bad s (subst (Opens (radius-word s)) (c .enum-told2 .given .1) (c .before .before .open-value2 .ensures))
+    let r = c .before .before in
+    let s = at-start (pitched r) .args .setting in
+    radius-bad s (subst (Opens (radius-word s)) (c .enum-told2 .given .1) (r .open-value2 .ensures))
 
 returns-3 : tie.Need-returns-3
 returns-3 c =
-    let first = c .before .before .before .before .before in
-    let s = first .before .before .before .args .setting in
+    let r = c .before .before .before in
+    let first = pitched r in
+    let s = at-start first .args .setting in
     both-good s (subst (Opens (pitch-word s)) (first .a .given .1) (first .before .before .open-value .ensures))
-    (subst (Opens (radius-word s)) (c .before .b .given .1) (c .before .before .before .open-value2 .ensures))
+    (subst (Opens (radius-word s)) (c .before .b .given .1) (r .open-value2 .ensures))
 
 pub open-spec : {M : Type 1} → statement M
 open-spec =

@@ -9,6 +9,13 @@ use borrow.Author.Needs.{needs}
 use Rattle.line_check.proofs.one_line.Statement.{statement}
 use Rattle.line_check.proofs.one_line.Tie as tie
 
+-- the ways back: from the length to the start, and from the parts that are lent to the length
+abbrev at-start : tie.After-some-length → tie.Start
+at-start c = c .before .before
+
+abbrev measured : tie.After-winners → tie.After-some-length
+measured c = c .before .before .before .before
+
 some-length-requires : tie.Need-some-length-requires
 some-length-requires c κs = search needs
 
@@ -31,16 +38,16 @@ array-borrow-prefix-winners : tie.Need-array-borrow-prefix-winners
 array-borrow-prefix-winners c = search needs
 
 slice-aggregate-try-line-3 : tie.Need-slice-aggregate-try-line-3
-slice-aggregate-try-line-3 c = sym (part side-limit mark (c .before .before .before .before .some-length .ensures .1))
+slice-aggregate-try-line-3 c = sym (part side-limit mark (measured c .some-length .ensures .1))
 
 try-line-requires : tie.Need-try-line-requires
 try-line-requires c κs =
-    let n = c .before .before .before .before .some-length in
+    let n = measured c .some-length in
     let twice : n .result + n .result ≤ side-limit + side-limit = omega arith in
     let values = part side-limit 0 (n .ensures .1) in
     let work = part (side-limit + side-limit) mark twice in
     let winners = part side-limit mark (n .ensures .1) in (
-      c .before .before .before .before .before .before .pre,
+      at-start (measured c) .pre,
       rw values (n .ensures .0),
       rw values (n .ensures .1),
       work ∙ sym (ap₂ _+_ values values),
@@ -49,9 +56,10 @@ try-line-requires c κs =
 
 returns : tie.Need-returns
 returns c =
-    let n = c .before .before .before .before .before .before .before .before .some-length in
+    let t = c .before .before .before in
+    let n = measured (t .before) .some-length in
     let values = part side-limit 0 (n .ensures .1) in
-    record { places-to = omega arith; wrong-to = rw values at (c .before .before .before .try-line .ensures) }
+    record { places-to = omega arith; wrong-to = rw values at (t .try-line .ensures) }
 
 pub one-line-spec : {M : Type 1} → statement M
 one-line-spec =

@@ -6,13 +6,17 @@ use borrow.Author.Needs.{needs}
 use Rattle.line_check.proofs.try_line.Statement.{statement}
 use Rattle.line_check.proofs.try_line.Tie as tie
 
+-- the way back from the filled line to the start
+abbrev at-start : tie.After-fill → tie.Start
+at-start c = c .before .before .before .before .before .before
+
 fill-requires : tie.Need-fill-requires
 fill-requires c κs = search needs
 
 winners-of-requires : tie.Need-winners-of-requires
 winners-of-requires c κs =
     let f = c .before .before .before .before .before in
-    let p = f .before .before .before .before .before .before .pre in
+    let p = at-start f .pre in
     let long = sym (f .fill .kept .1 .0) in (
       record {
         gauged = record { parts = p .0; line = f .fill .ensures };

@@ -16,6 +16,13 @@ Inv-loop b words₀ y₀ words y = (y ≤ b .h) × Settled b half whole (cell (b
 abbrev μ-loop : tie.MeasureT-loop
 μ-loop b words₀ y₀ words y = y
 
+-- the ways back: from a turn of the loop to the start, and from the end of the turn to its beginning
+abbrev at-start : tie.In-loop Inv-loop μ-loop → tie.Start Inv-loop μ-loop
+at-start c = c .before .before .before
+
+abbrev turn : tie.After-slice-known2 Inv-loop μ-loop → tie.In-loop Inv-loop μ-loop
+turn c = c .before .before .before .before
+
 loop-holds : tie.Need-loop-holds Inv-loop μ-loop
 loop-holds c = (omega arith, none-yet (omega arith) (c .before .pre .1))
 
@@ -24,16 +31,16 @@ sub-y c = omega arith
 
 backward-row-requires : tie.Need-backward-row-requires Inv-loop μ-loop
 backward-row-requires c κs =
-    (c .before .before .before .before .pre .0, c .before .before .loop .inv .1 .words, omega arith)
+    (at-start (c .before) .pre .0, c .before .before .loop .inv .1 .words, omega arith)
 
 loop-less : tie.Need-loop-less Inv-loop μ-loop
 loop-less c = omega arith
 
 loop-again : tie.Need-loop-again Inv-loop μ-loop
 loop-again c =
-    let loop = c .before .before .before .before .before .loop in
+    let loop = turn c .before .loop in
     let next : loop .y ≡ loop .y - 1 + 1 = omega arith in
-    let w = c .before .before .before .before .before .before .before .args .b .w in
+    let w = at-start (turn c) .args .b .w in
     let above = ap (λ n. n * w) next in
     let below = mul-le-mul-right w (loop .inv .0) in (
       omega arith,

@@ -10,13 +10,24 @@ use Rattle.chamfer.proofs.Ending.{mapped}
 use Rattle.chamfer.proofs.scans.map_words.Statement.{statement}
 use Rattle.chamfer.proofs.scans.map_words.Tie as tie
 
+-- the ways back: from the words before the scans to the start, from the forward scan to those words, and from the backward
+-- scan to the forward one
+abbrev at-start : tie.After-begin → tie.Start
+at-start c = c .before .before .before .before
+
+abbrev reached : tie.After-forward → tie.After-begin
+reached c = c .before .before .before .before
+
+abbrev forwards : tie.After-backward → tie.After-forward
+forwards c = c .before .before .before .before
+
 begin-requires : tie.Need-begin-requires
 begin-requires c κs = search needs
 
 forward-requires : tie.Need-forward-requires
 forward-requires c κs =
     let g = c .before .before .before in
-    let s = g .before .before .before .before in
+    let s = at-start g in
     (s .pre .0, first-words (g .begin .ensures) (g .begin .kept .1 .0 ∙ s .pre .2))
 
 backward-requires : tie.Need-backward-requires
@@ -27,9 +38,9 @@ same-length c = search needs
 
 returns : tie.Need-returns
 returns c =
-    let f = c .before .before .before .before .before .before in
-    let g = f .before .before .before .before in
-    let s = g .before .before .before .before in
+    let f = forwards (c .before .before) in
+    let g = reached f in
+    let s = at-start g in
     let first = begun (g .begin .ensures) (g .begin .kept .1 .0 ∙ s .pre .2) (s .pre .0) (s .pre .3) in
     let weights = s .pre .0 .weights in
     let second = brought forward-scan (omega arith) weights (f .forward .ensures) first in

@@ -13,6 +13,10 @@ Inv-loop seed₀ values₀ n style reach i₀ seed values i = Filled (length val
 abbrev μ-loop : tie.MeasureT-loop
 μ-loop seed₀ values₀ n style reach i₀ seed values i = n - i
 
+-- the way back from the loop to the start
+abbrev at-start : tie.At-loop Inv-loop μ-loop → tie.Start Inv-loop μ-loop
+at-start c = c .before .before .before .before .before .before
+
 draw-requires : tie.Need-draw-requires Inv-loop μ-loop
 draw-requires c κs = omega arith
 
@@ -45,7 +49,7 @@ same-length c = c .before .loop .inv .long
 
 returns : tie.Need-returns Inv-loop μ-loop
 returns c =
-    let p = c .before .before .before .before .before .before .before .pre in
+    let p = at-start (c .before) .pre in
     filled (c .before .loop .inv) (c .loop-test .left) (p .0) (p .1)
 
 pub fill-spec : {M : Type 1} → statement M

@@ -14,7 +14,8 @@ use borrow.Author.Needs.{needs}
 use Rattle.bench_file.proofs.measure_on.Statement.{statement}
 use Rattle.bench_file.proofs.measure_on.Tie as tie
 
--- the ways back: from the boring to the start, from the test of 6 to the boring, and from the map to that test
+-- the ways back: from the boring to the start, from the test of 6 to the boring, from the map to that test, and from the
+-- peak to the map
 abbrev at-start : tie.After-bore → tie.Start
 at-start c = c .before .before .before .before .before .before .before
 
@@ -23,6 +24,9 @@ bored c = c .before .before .before .before
 
 abbrev tested : tie.After-row-map → tie.Else1
 tested c = c .before .before .before .before .before
+
+abbrev mapped : tie.After-peak → tie.After-row-map
+mapped c = c .before .before .before .before .before .before .before .before
 
 -- what is bored is the file's picture
 picture-is : (c : tie.After-bore) → c .bore .last .1 .0 ≡ bored-by (at-start c .args .file .now)
@@ -81,7 +85,7 @@ same-length-5 c = search needs
 
 returns-2 : tie.Need-returns-2
 returns-2 c =
-    let m = c .before .before .before .before .before .before .before .before .before in
+    let m = mapped (c .before) in
     let t = tested m in
     let b = bored (t .before) in
     let M = m .row-map .ensures 0 0 in

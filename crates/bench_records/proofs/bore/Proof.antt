@@ -17,14 +17,21 @@ Inv-loop file picture₀ bores₀ i₀ picture bores i = Boring file picture₀ 
 abbrev μ-loop : tie.MeasureT-loop
 μ-loop file picture₀ bores₀ i₀ picture bores i = length file - i
 
+-- the ways back: from a turn of the loop to the start, and from the picture that is lent to its turn
+abbrev at-start : tie.In-loop Inv-loop μ-loop → tie.Start Inv-loop μ-loop
+at-start c = c .before .before .before .before
+
+abbrev turn : tie.After-bore-cell-arg Inv-loop μ-loop → tie.In-loop Inv-loop μ-loop
+turn c = c .before .before .before
+
 loop-holds : tie.Need-loop-holds Inv-loop μ-loop
 loop-holds c = boring-none (c .before .before .pre .0) (c .before .before .pre .1)
 
 -- the record at i is on the board
-on-board : (c : tie.In-loop Inv-loop μ-loop) → let bytes = c .before .before .before .before .args .file .now in
+on-board : (c : tie.In-loop Inv-loop μ-loop) → let bytes = at-start c .args .file .now in
     (coordinate-at bytes (c .before .loop .i) < bench-side) × (coordinate-at bytes (c .before .loop .i + 2) < bench-side)
 on-board c =
-    let bytes = c .before .before .before .before .args .file .now in
+    let bytes = at-start c .args .file .now in
     let (column, row, later) = record-inside bytes (c .before .loop .i) (c .loop-test .taken) (c .before .loop .inv .inside) in
     (column, row)
 
@@ -41,21 +48,21 @@ coordinate-requires-2 : tie.Need-coordinate-requires-2 Inv-loop μ-loop
 coordinate-requires-2 c κs = omega arith
 
 mul-bore-cell : tie.Need-mul-bore-cell Inv-loop μ-loop
-mul-bore-cell c = let (column, row) = on-board (c .before .before .before) in omega arith
+mul-bore-cell c = let (column, row) = on-board (turn c) in omega arith
 
 add-bore-cell : tie.Need-add-bore-cell Inv-loop μ-loop
 add-bore-cell c =
-    let (column, row) = on-board (c .before .before .before) in omega arith
+    let (column, row) = on-board (turn c) in omega arith
 
 bore-cell-requires : tie.Need-bore-cell-requires Inv-loop μ-loop
 bore-cell-requires c κs =
-    let (column, row) = on-board (c .before .before .before) in
-    omega (arith, c .before .before .before .before .loop .inv .as-long)
+    let (column, row) = on-board (turn c) in
+    omega (arith, turn c .before .loop .inv .as-long)
 
 add-bores : tie.Need-add-bores Inv-loop μ-loop
 add-bores c =
     let cell = c .before .before .bore-cell in
-    let l = c .before .before .before .before .before .before .before .loop in
+    let l = turn (c .before .before .before) .before .loop in
     omega (arith, cell .ensures .counted, l .inv .counted, l .inv .as-long, cell .kept .0, bores-few (cell .last .0))
 
 add-i : tie.Need-add-i Inv-loop μ-loop
@@ -66,7 +73,7 @@ loop-less c = omega arith
 
 loop-again : tie.Need-loop-again Inv-loop μ-loop
 loop-again c =
-    let l = c .before .before .before .before .before .before in
+    let l = turn (c .before .before .before) in
     boring-more (l .before .loop .inv) (l .loop-test .taken) (c .before .before .before .before .before .coordinate .ensures)
     (c .before .before .before .before .coordinate2 .ensures) (c .before .before .bore-cell .ensures)
 

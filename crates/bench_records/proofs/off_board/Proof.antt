@@ -16,6 +16,13 @@ Inv-loop file i₀ i = (off-board file ≡ off-board (drop i file)) × (i ≤ le
 abbrev μ-loop : tie.MeasureT-loop
 μ-loop file i₀ i = length file - i
 
+-- the ways back: from a turn of the loop to the start, and from the second coordinate to its turn
+abbrev at-start : tie.In-loop Inv-loop μ-loop → tie.Start Inv-loop μ-loop
+at-start c = c .before .before .before
+
+abbrev turn : tie.After-coordinate2 Inv-loop μ-loop → tie.In-loop Inv-loop μ-loop
+turn c = c .before .before .before
+
 loop-holds : tie.Need-loop-holds Inv-loop μ-loop
 loop-holds c = (refl, omega arith)
 
@@ -27,10 +34,11 @@ coordinate-requires c κs = omega arith
 
 returns : tie.Need-returns Inv-loop μ-loop
 returns c =
-    let file = c .before .before .before .before .before .args .file .now in
-    let i = c .before .before .before .loop .i in
-    sym (c .before .before .before .loop .inv .0
-    ∙ holds-unless (off-board (drop i file)) (λ e. omega (arith, record-inside file i (c .before .before .loop-test .taken) e .0)))
+    let l = c .before .before in
+    let file = at-start l .args .file .now in
+    let i = l .before .loop .i in
+    sym (l .before .loop .inv .0
+    ∙ holds-unless (off-board (drop i file)) (λ e. omega (arith, record-inside file i (l .loop-test .taken) e .0)))
 
 add-coordinate : tie.Need-add-coordinate Inv-loop μ-loop
 add-coordinate c = omega arith
@@ -40,8 +48,8 @@ coordinate-requires-2 c κs = omega arith
 
 returns-2 : tie.Need-returns-2 Inv-loop μ-loop
 returns-2 c =
-    let file = c .before .before .before .before .before .before .before .args .file .now in
-    let l = c .before .before .before .before in
+    let l = turn (c .before) in
+    let file = at-start l .args .file .now in
     let i = l .before .loop .i in
     sym (l .before .loop .inv .0
     ∙ holds-unless (off-board (drop i file)) (λ e. omega (arith, record-inside file i (l .loop-test .taken) e .1)))
@@ -54,8 +62,8 @@ loop-less c = omega arith
 
 loop-again : tie.Need-loop-again Inv-loop μ-loop
 loop-again c =
-    let file = c .before .before .before .before .before .before .before .args .file .now in
-    let l = c .before .before .before .before in
+    let l = turn (c .before) in
+    let file = at-start l .args .file .now in
     let i = l .before .loop .i in
     (l .before .loop .inv .0 ∙ record-passes file i (l .loop-test .taken) (omega arith) (omega arith), omega arith)
 

@@ -12,9 +12,12 @@ use borrow.Author.Needs.{needs}
 use Rattle.costs.proofs.accepted_map.Statement.{statement}
 use Rattle.costs.proofs.accepted_map.Tie as tie
 
--- the way back from the words of the scratch to the start
+-- the ways back: from the words of the scratch to the start, and from the zeros to the rows
 abbrev at-start : tie.After-scratch-words → tie.Start
 at-start c = c .before .before .before .before .before
+
+abbrev made : tie.After-set-front → tie.After-columns-and-rows
+made c = c .before .before .before .before .before .before .before .before .before
 
 -- the scratch has as many words as are lent
 enough : (c : tie.After-scratch-words) → c .scratch-words .result ≤ length (at-start c .args .scratch .now)
@@ -73,7 +76,7 @@ same-length-3 c = search needs
 returns : tie.Need-returns
 returns c =
     let zeros = c .before .before in
-    let rows = zeros .before .before .before .before .before .before .before .before .before in
+    let rows = made zeros in
     let s = rows .before .before .before .before .before in
     let a = at-start s .args in
     let l = at-start s .pre .lent in

@@ -7,6 +7,10 @@ use borrow.Author.Needs.{needs}
 use Rattle.costs.proofs.cost_map.Statement.{statement}
 use Rattle.costs.proofs.cost_map.Tie as tie
 
+-- the way back from the end to the map
+abbrev made : tie.After-slice-known6 → tie.After-accepted-map
+made c = c .before .before .before .before .before .before
+
 cost-refusal-requires : tie.Need-cost-refusal-requires
 cost-refusal-requires c κs = search needs
 
@@ -29,7 +33,7 @@ same-length-3 c = search needs
 
 returns-2 : tie.Need-returns-2
 returns-2 c =
-    let m = c .before .before .before .before .before .before in
+    let m = made c in
     let t = m .before .before .before .before in
     made-call (sym (t .if1 .left) ∙ t .before .cost-refusal .ensures) (m .accepted-map .ensures)
 

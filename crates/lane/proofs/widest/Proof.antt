@@ -7,6 +7,10 @@ use borrow.Author.Needs.{needs}
 use Rattle.lane.proofs.widest.Statement.{statement}
 use Rattle.lane.proofs.widest.Tie as tie
 
+-- the way back from the end to the lane
+abbrev found : tie.After-slice-known8 → tie.After-accepted-lane
+found c = c .before .before .before .before .before .before .before .before
+
 lane-refusal-requires : tie.Need-lane-refusal-requires
 lane-refusal-requires c κs = search needs
 
@@ -32,7 +36,7 @@ same-length-4 c = search needs
 
 returns-2 : tie.Need-returns-2
 returns-2 c =
-    let l = c .before .before .before .before .before .before .before .before in
+    let l = found c in
     let t = l .before .before .before .before .before in
     made-call (sym (t .if1 .left) ∙ t .before .lane-refusal .ensures) (l .accepted-lane .ensures)
 

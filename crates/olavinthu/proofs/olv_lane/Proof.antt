@@ -5,6 +5,10 @@ use borrow.Author.Needs.{needs}
 use Rattle.olavinthu.proofs.olv_lane.Statement.{statement}
 use Rattle.olavinthu.proofs.olv_lane.Tie as tie
 
+-- the way back from the answer's cases to the lane
+abbrev found : tie.After-slice-known8 → tie.After-widest
+found c = c .before .before .before .before .before .before .before .before
+
 widest-requires : tie.Need-widest-requires
 widest-requires c κs = search needs
 
@@ -27,7 +31,9 @@ same-length-4 : tie.Need-same-length-4
 same-length-4 c = search needs
 
 returns : tie.Need-returns
-returns c = (of-any no-lane (lane-as (c .before .number .given .1) (c .before .before .before .before .before .before .before .before .before .before .before .widest .ensures)), same _ _, same _ _)
+returns c =
+    let l = found (c .before .before .before) in
+    (of-any no-lane (lane-as (c .before .number .given .1) (l .widest .ensures)), same _ _, same _ _)
 
 same-length-5 : tie.Need-same-length-5
 same-length-5 c = search needs
@@ -42,7 +48,9 @@ same-length-8 : tie.Need-same-length-8
 same-length-8 c = search needs
 
 returns-2 : tie.Need-returns-2
-returns-2 c = (lane-as (c .before .broad .given .1) (c .before .before .before .before .before .before .before .before .before .before .before .widest .ensures), told _ _, told _ _)
+returns-2 c =
+    let l = found (c .before .before .before) in
+    (lane-as (c .before .broad .given .1) (l .widest .ensures), told _ _, told _ _)
 
 pub olv-lane-spec : {M : Type 1} → statement M
 olv-lane-spec =

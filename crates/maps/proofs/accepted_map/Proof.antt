@@ -8,11 +8,8 @@ use Rattle.maps.proofs.accepted_map.Statement.{statement}
 use Rattle.maps.proofs.accepted_map.Tie as tie
 
 -- the ways back: from the kind's test to the start, and from the end to the map that is made
-abbrev chamfer : tie.Then1 → tie.Start
-chamfer c = c .before .before .before .before .before .before .before .before
-
-abbrev other : tie.Else1 → tie.Start
-other c = c .before .before .before .before .before .before .before .before
+abbrev at-start : tie.After-struct-known3 → tie.Start
+at-start c = c .before .before .before .before .before .before .before
 
 abbrev scanned : tie.After-slice-known6 → tie.After-scanned-map
 scanned c = c .before .before .before .before .before .before
@@ -29,11 +26,12 @@ cast-h c = search needs
 scanned-map-requires : tie.Need-scanned-map-requires
 scanned-map-requires c κs =
     let t = c .before .before .before in
-    let a = chamfer t .args in
+    let s = at-start (t .before) in
+    let a = s .args in
     subst
     (λ k. PictureAccepted (a .a .w) (a .a .h) k (a .a .d1) (a .a .d2) (a .picture .now) (length (a .distances .now))
     (length (a .sites .now)) (length (a .scratch .now)))
-    (t .if1 .taken) (chamfer t .pre)
+    (t .if1 .taken) (s .pre)
 
 same-length : tie.Need-same-length
 same-length c = search needs
@@ -53,7 +51,7 @@ returns c =
 row-map-requires : tie.Need-row-map-requires
 row-map-requires c κs =
     let t = c .before .before .before in
-    let p = other t .pre in (
+    let p = at-start (t .before) .pre in (
       record { kind-in = p .kind-in; no-chamfer = t .if1 .left },
       record {
         sides = p .sides;
@@ -77,7 +75,8 @@ same-length-6 c = search needs
 returns-2 : tie.Need-returns-2
 returns-2 c =
     let m = mapped c in
-    let a = other (m .before .before .before .before) .args .a in
+    let t = m .before .before .before .before in
+    let a = at-start (t .before) .args .a in
     m .row-map .ensures (a .d1) (a .d2)
 
 pub accepted-map-spec : {M : Type 1} → statement M

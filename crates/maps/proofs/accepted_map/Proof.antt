@@ -1,6 +1,5 @@
 -- `maps::accepted_map` meets its contract: the scans for kind 3, the row lines for the others. Assumes nothing.
 use mathlib.Core.Path.{subst}
-use native.Mathlib.Omega.{arith}
 use lib.ListN.{length}
 use Rattle.rules.specs.Accepted.{PictureAccepted}
 use borrow.Author.Needs.{needs}

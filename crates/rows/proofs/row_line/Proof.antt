@@ -1,6 +1,6 @@
 -- `rows::row_line` meets its contract: fill makes a line of the row's words that can be read, and what comes of it is the
 -- row of a picture. Assumes nothing.
-use mathlib.Core.Path.{_≡_, _∙_, sym}
+use mathlib.Core.Path.{_∙_, sym}
 use lib.ListN.{length}
 use borrow.Author.Needs.{needs}
 use Rattle.rows.specs.Row.{Believed, Filled}

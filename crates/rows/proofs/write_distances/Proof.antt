@@ -1,6 +1,6 @@
 -- `rows::write_distances` meets its contract. The loop's invariant: the places before x have the heights of their winners.
 -- The measure is what is left of the row. Assumes nothing.
-use mathlib.Core.Path.{_≡_, sym, _∙_, ap, subst}
+use mathlib.Core.Path.{sym, _∙_, ap, subst}
 use Prim.Native.Nat.{_-_, _^_, _≤_, _<_}
 use native.Mathlib.Omega.{arith}
 use lib.ListN.{length, getD}

@@ -1,6 +1,6 @@
 -- `cost_lines::row::row_line` meets its contract: fill makes a line of the row's words and costs that can be read, and what
 -- comes of it is the row's map. Assumes nothing.
-use mathlib.Core.Path.{_≡_, _∙_, sym}
+use mathlib.Core.Path.{_∙_, sym}
 use Prim.Native.Nat.{_+_, _*_, _≤_}
 use native.Mathlib.Omega.{arith}
 use lib.ListN.{length}

@@ -116,7 +116,7 @@ uint32_t olv_cost_map(uint32_t w, uint32_t h, uint32_t kind,
                       uint32_t *scratch, size_t scratch_count);
 
 /*
- * Where one curve stops being the lower of two: *p becomes the greatest whole number with
+ * The last place at which the left of two curves is no higher: *p becomes the greatest whole number with
  * (*p - i)^2 + a <= (*p - u)^2 + b, that is the floor of (u^2 - i^2 + b - a) / (2 * (u - i)). It may be negative.
  *
  *   i, u  columns, i < u <= OLV_COLUMN_LIMIT

@@ -1,7 +1,6 @@
--- The bench file's answer, put together. The first test that holds gives the number. A picture that a file
--- bores, and that has a bore, has what a kind 0 map asks, so the map is made; the first of its greatest words is the farthest,
--- since each cell has one word. The picture is spoken of by a name, and only at the end as the file's.
--- Assumes nothing.
+-- The bench file's answer, put together. The first test that holds gives the number. A picture that a file bores, and that
+-- has a bore, has what a kind 0 map asks, so the map is made; the first of its greatest words is the farthest, since each
+-- cell has one word. The picture is spoken of by a name, and only at the end as the file's. Assumes nothing.
 use mathlib.Core.Path.{_≡_, refl, _∙_, sym, ap, subst}
 use mathlib.Core.Logic.{by-cases}
 use mathlib.Core.Bool.{Bool, true, false, cond, true≢false, false≢true}

@@ -88,7 +88,7 @@ module _ {b : Board} {picture words : List ℕ} (B : Begun picture words) (one-e
               (within-limit y (some .1) (on .row-in) (some .3) (r .sides .height-to)));
         })
 
-    -- what has been reached before the scans
+    -- the words before the scans are bounded
     pub begun : Bounded b picture words 0
     begun =
         record {

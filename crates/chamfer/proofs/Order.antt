@@ -1,6 +1,6 @@
 -- The order of a scan. The four steps of the forward scan lead to cells with lesser numbers, those of the backward scan
--- to cells with greater ones. So a scan does the neighbours that a cell takes from before it does the cell, and what holds
--- of a cell wherever it holds of those neighbours holds of every cell of the board. Assumes nothing.
+-- to cells with greater ones. So a scan comes to a cell only after the neighbours whose words the cell takes, and what
+-- holds of a cell wherever it holds of those neighbours holds of every cell of the board. Assumes nothing.
 use mathlib.Core.Path.{_≡_, _∙_, ap}
 use Prim.Native.Nat.{ℕ, zero, suc, _+_, _-_, _*_, _≤_, _<_}
 use native.Mathlib.Nat.{le-refl}

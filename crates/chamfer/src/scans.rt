@@ -9,7 +9,7 @@ ghost use Rattle.rules.specs.Accepted.{Somewhere};
 ghost use Rattle.chamfer_turn.specs.Neighbours.{Ruled, Words};
 ghost use Rattle.chamfer.specs.Scans.{half, whole, Settled, Scan, first-word, Begun, Scanned};
 
-// "b(i,j) = ∞": a word above every true one, to which a weight can be added.
+// 003's "b(i,j) = ∞": a word above every true one, to which a weight can be added.
 const FAR: u32 = 1_073_741_824;
 
 // What a cell starts with.

@@ -1,5 +1,5 @@
-// The public changeover: the tests of its columns and values, then the place up to which the left of two curves of kind 0
-// is the lower. The engine along a line goes by the same crossing and never needs one below zero; here that is an answer
+// The public changeover: the tests of its columns and values, then the last place at which the left of two curves of kind 0
+// is no higher. The engine along a line goes by the same crossing and never needs one below zero; here that is an answer
 // too.
 use gauge::crossing::last_euclid;
 use gauge::square;

@@ -1,6 +1,6 @@
--- From the column words of a cost picture to the map of one row. The word of a column that has a cost names the
--- nearest of its rows by rank, and the column stands at that rank; a column that has none stands at the line limit. So
--- the line is one that the rows can read, and the step from columns to rows makes the map of what comes of it. Assumes nothing.
+-- From the column words of a cost picture to the map of one row. The word of a column that has a cost names the nearest of
+-- its rows by rank, and the column stands at that rank; a column that has none stands at the line limit. So the line is one
+-- that the rows can read, and the step from columns to rows makes the map of what comes of it. Assumes nothing.
 use mathlib.Core.Path.{_≡_, refl, _∙_}
 use mathlib.Core.Logic.{_≢_, inl, inr, by-cases}
 use mathlib.Core.List.{List}

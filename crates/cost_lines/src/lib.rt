@@ -12,7 +12,7 @@ ghost use Rattle.cost_lines.specs.After.{FitAccepted, RowsAfter};
 mod column;
 mod row;
 
-// The rows of the map of a cost picture that has passed the tests, in buffers of just its size: columns, then rows, on
+// The map words and sites of a cost picture that has passed the tests, in buffers of just its size: columns, then rows, on
 // the line that is lent. The columns' winners stand in the distances, which are free until the rows are written.
 pub fn columns_and_rows(
     g: Gauge,

@@ -16,7 +16,7 @@ starts work k = getD work k 0
 abbrev pub holders : ℕ → List ℕ → ℕ → ℕ
 holders n work k = getD work (n + k) 0
 
--- what every function of the engine is given: a gauge and a line, and work words with room for the line's stretches
+-- what the functions of scan 3 are given: a gauge and a line, and work words with room for the line's stretches
 pub record Given (g : Gauge) (values work : List ℕ) : Type 0 where
   pub gauged : Gauged g values
   pub room : length work ≡ length values + length values

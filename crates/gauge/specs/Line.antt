@@ -18,7 +18,7 @@ measured g = measure (g .kind)
 unfoldable pub height-at : Gauge → List ℕ → ℕ → ℕ → ℕ
 height-at g values i x = measured g .combine (away x i) (getD values i 0)
 
--- a line that the engine takes: 1 to the side many values, none above the line limit
+-- a line that the engine takes: from 1 to the side limit many values, none above the line limit
 pub record Line (values : List ℕ) : Type 0 where
   pub from : 1 ≤ length values
   pub to : length values ≤ side-limit

@@ -1,6 +1,6 @@
 -- What the steps of a map leave, put together. The sweeps leave the column words, which the row lines believe; a bore makes
--- its column name a row in every row, so each row has a winner; the step from columns to rows, cited from the rules, makes of
--- a row's words the map words and sites. Whatever the scratch then holds is set to zero. Assumes nothing.
+-- its column name a row in every row, so each row has a winner; the step from columns to rows, cited from the rules, makes
+-- of a row's words the map words and sites. Whatever the scratch then holds is set to zero. Assumes nothing.
 use mathlib.Core.Path.{_≡_, refl, subst}
 use mathlib.Core.List.{List}
 use Prim.Native.Nat.{ℕ, _+_, _*_, _<_}

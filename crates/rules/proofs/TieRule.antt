@@ -1,11 +1,11 @@
 -- The map word and the tie rule: each names one thing, and names it wherever there is a feature. The map word is one
 -- number: each of two least words is the word of a feature, so neither is above the other. The tie rule is an order of
 -- the cells by their keys, which are word, column, dy and row; the rule for costs is the same with 0 for every dy. The
--- cell that the rule takes is the feature that no feature comes before. The keys of two cells differ, for they hold column and row,
--- so one of two features comes before the other, and the rule takes at most one cell. It takes one wherever there is a
--- feature: go through the cells in the order of their numbers with a feature in hand, and change it for each feature
--- that comes before it; none comes before the one in hand at the end. That cell attains the least word, so there is a
--- map word too. Assumes nothing.
+-- cell that the rule takes is the feature that no feature comes before. The keys of two cells differ, for they hold
+-- column and row, so one of two features comes before the other, and the rule takes at most one cell. It takes one
+-- wherever there is a feature: go through the cells in the order of their numbers with a feature in hand, and change it
+-- for each feature that comes before it; none comes before the one in hand at the end. That cell attains the least word,
+-- so there is a map word too. Assumes nothing.
 use mathlib.Core.Path.{_≡_, refl}
 use mathlib.Core.Logic.{_↔_, inl, inr, ⊎-elim, by-cases, Dec·and, Dec·not}
 use mathlib.Core.List.{List}

@@ -1,7 +1,6 @@
--- The limits of document 01, each in one place. `src/lib.rt` has a constant for each, and `limits` there is proved to
--- hand out these very numbers. A proof names the limit and not its digits, but for the knob: 4,096 is 2^12, and
--- its powers of two are counted as 13.
--- Assumes nothing.
+-- The limits of document 01, each in one place, and two of our own at the end. `src/lib.rt` has a constant for each but the
+-- last, and `limits` there is proved to hand out these very numbers. A proof names the limit and not its digits, but for
+-- the knob: 4,096 is 2^12, and its powers of two are counted as 13. Assumes nothing.
 use mathlib.Core.Path.{_≡_}
 use Prim.Native.Nat.{ℕ, _*_, _^_}
 use Rattle.rules.specs.declared.LimitTable.{LimitTable}
@@ -57,7 +56,8 @@ file-limit = 16_384
 abbrev pub line-limit : ℕ
 line-limit = 2 ^ 50
 
--- What every kind lifts a difference of rows below: ours too. Kind 0 lifts to its square.
+-- What a kind that has parts lifts a difference below the side limit to is below this: ours too, and no constant of the
+-- program. Kind 0 lifts to the square.
 abbrev pub lift-limit : ℕ
 lift-limit = side-limit * side-limit
 

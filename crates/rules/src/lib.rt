@@ -13,8 +13,6 @@ pub const COST_LIMIT: u32 = 1_000_000;
 pub const KIND_LIMIT: u32 = 3;
 
 pub const COST_KIND_LIMIT: u32 = 1;
-// The kind whose maps are made by scans, and name no cell.
-pub const CHAMFER_KIND: u32 = 3;
 // "d1 from 1 to 255"
 pub const WEIGHT_LIMIT: u32 = 255;
 // The changeover's "columns 0 to 511".
@@ -68,6 +66,9 @@ pub fn limits() -> LimitTable
         line: LINE_LIMIT,
     }
 }
+
+// The kind whose maps are made by scans, and name no cell.
+pub const CHAMFER_KIND: u32 = 3;
 
 // A stored word as an index of a list.
 pub fn as_index(word: u32) -> usize

@@ -1,5 +1,5 @@
--- `board_tests::bad_buffers` meets its contract: each test that answers is one way in which the row holds, and the last is what is left
--- of it. Assumes nothing.
+-- `board_tests::bad_buffers` meets its contract: each test that answers is one way in which the row holds, and the last is
+-- what is left of it. Assumes nothing.
 use mathlib.Core.Path.{_≡_, sym}
 use mathlib.Core.Bool.{true}
 use Prim.Native.Nat.{_*_, _≤_}

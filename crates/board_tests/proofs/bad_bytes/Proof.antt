@@ -1,5 +1,5 @@
--- `board_tests::bad_bytes` meets its contract. The loop's invariant: no byte before i is bad. The measure is what is left of the
--- picture. Assumes nothing.
+-- `board_tests::bad_bytes` meets its contract. The loop's invariant: no byte before i is bad. The measure is what is left
+-- of the picture. Assumes nothing.
 use mathlib.Core.Path.{_≡_, sym}
 use mathlib.Core.Bool.{false}
 use Prim.Native.Nat.{ℕ, _-_, _≤_, _<_}

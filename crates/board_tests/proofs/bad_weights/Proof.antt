@@ -1,5 +1,5 @@
--- `board_tests::bad_weights` meets its contract: no other kind reads the weights; each test that answers is one way in which the row
--- holds, and the last is what is left of it. Assumes nothing.
+-- `board_tests::bad_weights` meets its contract: no other kind reads the weights; each test that answers is one way in
+-- which the row holds, and the last is what is left of it. Assumes nothing.
 use mathlib.Core.Path.{sym}
 use native.Mathlib.Omega.{arith}
 use borrow.Author.Tests.{eq-eqb, le-ltb}

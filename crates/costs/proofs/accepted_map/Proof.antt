@@ -1,5 +1,5 @@
--- `costs::accepted_map` meets its contract: the rows are made in the fronts of the distances and the sites, and the front of the scratch
--- is set to zero, so that beyond them each list is as it was. Assumes nothing.
+-- `costs::accepted_map` meets its contract: the rows are made in the fronts of the distances and the sites, and the front
+-- of the scratch is set to zero, so that beyond them each list is as it was. Assumes nothing.
 use mathlib.Core.Path.{_∙_, sym, subst}
 use Prim.Native.Nat.{_≤_}
 use native.Mathlib.Omega.{arith}

@@ -1,5 +1,5 @@
--- `lane_search::best_lane` meets its contract: the width, a last flood at it, the walk down its labels, and the words that are left
--- cleared and marked. Assumes nothing.
+-- `lane_search::best_lane` meets its contract: the width, a last flood at it, the walk down its labels, and the words that
+-- are left cleared and marked. Assumes nothing.
 use mathlib.Core.Path.{refl, _∙_, sym}
 use Prim.Native.Nat.{_-_, _≤_}
 use native.Mathlib.Nat.{le-refl}

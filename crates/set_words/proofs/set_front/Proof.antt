@@ -1,5 +1,5 @@
--- `set_words::set_front` meets its contract: the front of the list is lent, comes back set, and what lies beyond it was not lent.
--- Assumes nothing.
+-- `set_words::set_front` meets its contract: the front of the list is lent, comes back set, and what lies beyond it was not
+-- lent. Assumes nothing.
 use mathlib.Core.Path.{_≡_, sym, _∙_}
 use native.Mathlib.Omega.{arith}
 use lib.ListN.{length, drop, List·getD-append}

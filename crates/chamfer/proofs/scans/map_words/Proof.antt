@@ -1,4 +1,4 @@
--- `chamfer::scans::map_words` meets its contract: what is reached before the scans, and then what each scan brings.
+-- `chamfer::scans::map_words` meets its contract: the words are bounded before the scans, and each scan brings more.
 -- Assumes nothing.
 use mathlib.Core.Path.{_∙_}
 use borrow.Author.Needs.{needs}

@@ -1,5 +1,5 @@
--- `lane_search::walk::next` meets its contract. The loop's invariant: no side before k leads one label down, and one from k on does.
--- The measure is how many of the four sides are left. Assumes nothing.
+-- `lane_search::walk::next` meets its contract. The loop's invariant: no side before k leads one label down, and one from k
+-- on does. The measure is how many of the four sides are left. Assumes nothing.
 use mathlib.Core.Path.{refl}
 use Prim.Native.Nat.{_-_}
 use native.Mathlib.Omega.{arith}

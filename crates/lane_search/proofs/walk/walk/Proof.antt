@@ -1,5 +1,5 @@
--- `lane_search::walk::walk` meets its contract. The loop's invariant: the cells before i are written and walk down the labels. The
--- measure is how many cells are left. Assumes nothing.
+-- `lane_search::walk::walk` meets its contract. The loop's invariant: the cells before i are written and walk down the
+-- labels. The measure is how many cells are left. Assumes nothing.
 use mathlib.Core.Path.{_∙_, sym}
 use Prim.Native.Nat.{_-_, _≤_}
 use native.Mathlib.Omega.{arith}

@@ -1,5 +1,5 @@
--- `lane_search::widths::reaches` meets its contract: a labelled cell has a lane to the far end, and a cell with no label none as
--- wide. Assumes nothing.
+-- `lane_search::widths::reaches` meets its contract: a labelled cell has a lane to the far end, and a cell with no label
+-- none as wide. Assumes nothing.
 use mathlib.Core.Path.{refl}
 use borrow.Author.Needs.{needs}
 use Rattle.lane_search.proofs.Lanes.{flood-answers}

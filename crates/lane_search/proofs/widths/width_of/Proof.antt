@@ -1,5 +1,5 @@
--- `lane_search::widths::width_of` meets its contract. The loop's invariant: some lane is as wide as `low`, and none is wider than
--- `high`. The measure is how far they are apart. Assumes nothing.
+-- `lane_search::widths::width_of` meets its contract. The loop's invariant: some lane is as wide as `low`, and none is
+-- wider than `high`. The measure is how far they are apart. Assumes nothing.
 use mathlib.Core.Path.{_≡_, _∙_, sym, subst}
 use Prim.Native.Nat.{_-_, _^_, _≤_, _<_}
 use native.Mathlib.Omega.{arith}

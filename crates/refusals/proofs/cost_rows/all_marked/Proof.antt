@@ -1,5 +1,5 @@
--- `refusals::cost_rows::all_marked` meets its contract. The loop's invariant: every cost before i is the mark. The measure is what is
--- left of the costs. Assumes nothing.
+-- `refusals::cost_rows::all_marked` meets its contract. The loop's invariant: every cost before i is the mark. The measure
+-- is what is left of the costs. Assumes nothing.
 use mathlib.Core.Path.{_≡_, sym}
 use Prim.Native.Nat.{ℕ, _-_, _≤_, _<_}
 use native.Mathlib.Omega.{arith}

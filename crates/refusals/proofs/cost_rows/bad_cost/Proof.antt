@@ -1,5 +1,5 @@
--- `refusals::cost_rows::bad_cost` meets its contract: a cost at most the limit is good, and above it only the mark is. Assumes
--- nothing.
+-- `refusals::cost_rows::bad_cost` meets its contract: a cost at most the limit is good, and above it only the mark is.
+-- Assumes nothing.
 use mathlib.Core.Path.{sym}
 use mathlib.Core.Logic.{inl}
 use borrow.Author.Tests.{lt-leb}

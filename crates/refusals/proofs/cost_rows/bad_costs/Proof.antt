@@ -1,5 +1,5 @@
--- `refusals::cost_rows::bad_costs` meets its contract. The loop's invariant: no cost before i is bad. The measure is what is left
--- of the costs. Assumes nothing.
+-- `refusals::cost_rows::bad_costs` meets its contract. The loop's invariant: no cost before i is bad. The measure is what
+-- is left of the costs. Assumes nothing.
 use mathlib.Core.Path.{_≡_, sym, _∙_}
 use mathlib.Core.Bool.{false}
 use Prim.Native.Nat.{ℕ, _-_, _≤_, _<_}

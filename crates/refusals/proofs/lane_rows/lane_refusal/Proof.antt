@@ -1,4 +1,5 @@
--- `refusals::lane_rows::lane_refusal` meets its contract: each `return` is the first row of the table that holds. Assumes nothing.
+-- `refusals::lane_rows::lane_refusal` meets its contract: each `return` is the first row of the table that holds. Assumes
+-- nothing.
 use mathlib.Core.Path.{_≡_, sym, _∙_}
 use mathlib.Core.Bool.{true, false, cond, _||_}
 use native.Mathlib.Omega.{arith}

@@ -18,7 +18,7 @@ use borrow.Author.Tests.{le-leb, lt-ltb}
 use Rattle.rules.specs.declared.Setting.{Setting}
 use Rattle.rules.specs.Limits.{knob-limit}
 use Rattle.rules.specs.Knob.{Good, good-word, pitch-word, radius-word}
-use Rattle.rules.specs.Refusals.{some, answer, opening-rows, bad-setting}
+use Rattle.rules.specs.Refusals.{some, answer, bad-setting}
 use Rattle.rules.specs.Refusals.{bad-sides, bad-kind, bad-weights, bad-buffers, bad-path, bad-slices, bad-byte}
 use Rattle.rules.specs.Refusals.{bad-cost, no-bore, all-marked, bad-ends, good-value, bad-changeover, bad-length}
 use Rattle.rules.specs.Calls.{Opened, OpeningCall}
@@ -94,8 +94,8 @@ opens-means s a b t =
 abbrev opens-not : Setting → Bool
 opens-not s = good-for-none (pitch-word s) || good-for-none (radius-word s)
 
--- where that test passes, it is refused
-opens-not-means : (s : Setting) → T (opens-not s) → answer (opening-rows s) ≡ 8
+-- where that test passes, it is bad
+opens-not-means : (s : Setting) → T (opens-not s) → bad-setting s ≡ true
 opens-not-means s t = by-test (bad-setting s) refl
   where
     none : (a b : ℕ) → Opened s a b → ⊥
@@ -104,8 +104,8 @@ opens-not-means s t = by-test (bad-setting s) refl
         (λ u. good-for-none-means (radius-word s) b u (o .radius-good))
         (or-yes (good-for-none (pitch-word s)) (good-for-none (radius-word s)) t)
 
-    by-test : (bad : Bool) → bad-setting s ≡ bad → answer (opening-rows s) ≡ 8
-    by-test true e = rw e refl
+    by-test : (bad : Bool) → bad-setting s ≡ bad → bad-setting s ≡ true
+    by-test true e = e
     by-test false e = let (a, b, o) = setting-good s e in absurd (none a b o)
 
 -- the test of an edge
@@ -115,12 +115,18 @@ passes (call rows n) = eqb (answer rows) n
 passes (opening pitch radius a b) = opens (setting pitch radius) a b
 passes (no-opening pitch radius) = opens-not (setting pitch radius)
 
+-- slices of one word are not refused
+one-word : bad-slices 1 1 ≡ false
+unfolding bad-slices
+one-word = refl
+
 -- an edge that passes holds
 sound : (e : Edge) → T (passes e) → EdgeHolds e
 sound (number computed stated) t = eqb-yes t
 sound (call rows n) t = eqb-yes t
 sound (opening pitch radius a b) t = opens-means (setting pitch radius) a b t
-sound (no-opening pitch radius) t = opens-not-means (setting pitch radius) t
+sound (no-opening pitch radius) t =
+    let e = opens-not-means (setting pitch radius) t in (rw e refl, rw (one-word, e) refl)
 
 -- all edges of a list pass
 abbrev all-pass : List Edge → Bool

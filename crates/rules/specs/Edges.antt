@@ -1,7 +1,7 @@
 -- Document 01's rows at their edges, as one list of values of one type, and what each says of the rules. Every figure is
 -- 01's own, in digits, and never a name of `Limits`: a limit that is wrong there and in the constants alike shows here.
--- A call has nothing wrong with it but what its line names. `proofs/Edges.antt` proves the claim `Met` of the list.
--- Assumes nothing.
+-- No row tested before the one that a call answers holds of it; a later one may, as 6 does of a board of side 0, which has
+-- no bore. `proofs/Edges.antt` proves the claim `Met` of the list. Assumes nothing.
 use mathlib.Core.Path.{_≡_}
 use mathlib.Core.Bool.{true, false}
 use mathlib.Core.List.{List, [], _∷_, _++_}
@@ -23,7 +23,7 @@ pub data Edge : Type 0 where
   call : List Row → ℕ → Edge
   -- pitch and radius; the two whole numbers that they open to
   opening : Float → Float → ℕ → ℕ → Edge
-  -- pitch and radius, refused
+  -- pitch and radius, refused by the opening and by a clear map of one word
   no-opening : Float → Float → Edge
 
 -- a setting of two values
@@ -35,7 +35,8 @@ abbrev pub EdgeHolds : Edge → Type 0
 EdgeHolds (number computed stated) = computed ≡ stated
 EdgeHolds (call rows n) = answer rows ≡ n
 EdgeHolds (opening pitch radius a b) = OpeningCall (setting pitch radius) 0 a b
-EdgeHolds (no-opening pitch radius) = answer (opening-rows (setting pitch radius)) ≡ 8
+EdgeHolds (no-opening pitch radius) =
+    (answer (opening-rows (setting pitch radius)) ≡ 8) × (answer (clear-rows (setting pitch radius) 1 1) ≡ 8)
 
 -- the one claim: every edge of a list holds
 abbrev pub Met : List Edge → Type 0
@@ -110,7 +111,7 @@ abbrev pub lent-lane : ℕ → ℕ → ℕ → ℕ → ℕ → List Row
 lent-lane path picture distances sites scratch =
     lane-rows 3 2 (replicate picture 1) 0 5 distances sites scratch path
 
--- 4: each list of the minimum length, a longer buffer, and each list a word short
+-- 4: each list of the minimum length, longer buffers, each list a word short, and the picture a word too long
 abbrev pub lent-edges : (ℕ → ℕ → ℕ → ℕ → List Row) → List Edge
 lent-edges lent =
     call (lent 6 6 6 16) 0
@@ -225,7 +226,8 @@ record-edges =
     ∷ call (file-rows (0 ∷ 0 ∷ 0 ∷ 1 ∷ [])) 11
     ∷ []
 
--- "the first row that holds": two rows hold, and the answer is the first in the entry's order
+-- "the first row that holds": two rows or more hold, and the answer is the first in the entry's order. Of each entry
+-- every two rows are here that it tests one after the other and that can both hold (2 and 3 cannot).
 abbrev pub order-edges : List Edge
 order-edges =
     call (picture-rows 0 1 4 0 0 [] 0 0 2) 1
@@ -233,12 +235,17 @@ order-edges =
     ∷ call (picture-rows 1 1 3 0 0 (1 ∷ []) 0 1 5) 3
     ∷ call (picture-rows 1 1 0 0 0 (2 ∷ []) 0 1 5) 4
     ∷ call (map-of 0 2) 5
+    ∷ call (cost-rows 0 1 2 [] 0 0 2) 1
     ∷ call (cost-rows 1 1 2 (0 ∷ []) 0 1 5) 2
     ∷ call (cost-rows 1 1 0 (1_000_001 ∷ []) 0 1 5) 4
     ∷ call (costs-of 4_294_967_295 1_000_001) 5
+    ∷ call (lane-rows 0 1 [] 0 0 0 0 1 0) 1
     ∷ call (lane-rows 1 1 (2 ∷ []) 0 0 1 1 5 0) 4
+    ∷ call (lane-of 0 2) 5
     ∷ call (lane-rows 1 1 (0 ∷ []) 0 1 1 1 5 1) 6
+    ∷ call (clear-rows (setting nan nan) 0 0) 4
     ∷ call (file-rows (64 ∷ 0 ∷ 0 ∷ 0 ∷ 0 ∷ [])) 10
+    ∷ call (file-rows (0 ∷ 0 ∷ 255 ∷ 255 ∷ [])) 11
     ∷ []
 
 -- all of them

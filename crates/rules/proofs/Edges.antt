@@ -2,9 +2,9 @@
 -- test passes the edge holds; the tests of all edges pass.
 --
 -- Two numbers are compared. A value of a setting is tested for each m below 13: the word and m leave one k
--- (`good-is`), so there is no need to try every k. Assumes nothing.
-use mathlib.Core.Path.{_≡_, refl, _∙_, ap}
-use mathlib.Core.Logic.{by-cases, ⊎-elim}
+-- (`good-is`), so there is no need to try every k as row 8 does (`quick`). Assumes nothing.
+use mathlib.Core.Path.{_≡_, refl, sym, _∙_, ap}
+use mathlib.Core.Logic.{by-cases}
 use mathlib.Core.Bool.{Bool, true, false, not, _&&_, _||_}
 use mathlib.Core.List.{List, [], _∷_}
 use Prim.Native.Nat.{ℕ, _+_, _-_, _*_, _/_, _^_, _<_}
@@ -12,8 +12,9 @@ use native.Mathlib.Decide.{decLe}
 use native.Mathlib.Omega.{arith}
 use lib.Dec.{T, leb, ltb, eqb}
 use lib.Ieee.{toBits, size}
+use lib.Ieee.Bits.{is-true}
 use lib.Pow.{pow-mono, shl-shr}
-use mir.Facts.{T-not, or-yes, leb-yes, ltb-yes, eqb-yes, yes-eqb}
+use mir.Facts.{leb-yes, ltb-yes, eqb-yes, yes-eqb}
 use borrow.Author.Tests.{le-leb, lt-ltb}
 use Rattle.rules.specs.declared.Setting.{Setting}
 use Rattle.rules.specs.Limits.{knob-limit}
@@ -21,10 +22,10 @@ use Rattle.rules.specs.Knob.{Good, good-word, pitch-word, radius-word}
 use Rattle.rules.specs.Refusals.{some, answer, bad-setting}
 use Rattle.rules.specs.Refusals.{bad-sides, bad-kind, bad-weights, bad-buffers, bad-path, bad-slices, bad-byte}
 use Rattle.rules.specs.Refusals.{bad-cost, no-bore, all-marked, bad-ends, good-value, bad-changeover, bad-length}
-use Rattle.rules.specs.Calls.{Opened, OpeningCall}
+use Rattle.rules.specs.Calls.{Opened}
 use Rattle.rules.specs.Edges.{Edge, number, call, opening, no-opening, setting, EdgeHolds, Met, edges}
-use Rattle.rules.proofs.Order.{every, every-means}
-use Rattle.rules.proofs.Knob.{some-means, setting-good, opened-good}
+use Rattle.rules.proofs.Knob.{some-means, some-holds, good-value-means, good-value-holds, opened-good}
+use Rattle.rules.proofs.Calls.{made-call}
 use Rattle.rules.proofs.Samples.{parts}
 
 -- the word is that of the good value for k, with 2^m the greatest power of two not above k
@@ -32,22 +33,35 @@ abbrev fits : ℕ → ℕ → ℕ → Bool
 fits word k m =
     leb 1 k && leb k knob-limit && leb (2 ^ m) k && ltb k (2 ^ (m + 1)) && eqb word (good-word k m)
 
+-- where that test passes, the word is good for k
+fits-means : (word k m : ℕ) → T (fits word k m) → Good word k
+fits-means word k m t = record {
+  from = leb-yes (search parts);
+  to = leb-yes (search parts);
+  m = m;
+  power = leb-yes (search parts);
+  greatest = ltb-yes (search parts);
+  word-is = eqb-yes (search parts);
+}
+
 -- the word is good for k
 abbrev good-for : ℕ → ℕ → Bool
 good-for word k = some 13 (fits word k)
 
 -- where that test passes, it is
 good-for-means : (word k : ℕ) → T (good-for word k) → Good word k
-good-for-means word k t =
-    let (m, l, u) = some-means 13 (fits word k) t in
-    record {
-      from = leb-yes (search parts);
-      to = leb-yes (search parts);
-      m = m;
-      power = leb-yes (search parts);
-      greatest = ltb-yes (search parts);
-      word-is = eqb-yes (search parts);
-    }
+good-for-means word k t = let (m, l, u) = some-means 13 (fits word k) t in fits-means word k m u
+
+-- a setting opens to a and b
+abbrev pub opens : Setting → ℕ → ℕ → Bool
+opens s a b = good-for (pitch-word s) a && good-for (radius-word s) b
+
+-- where that test passes, it does
+pub opens-means : (s : Setting) (a b : ℕ) → T (opens s a b) → Opened s a b
+opens-means s a b t = record {
+  pitch-good = good-for-means (pitch-word s) a (search parts);
+  radius-good = good-for-means (radius-word s) b (search parts);
+}
 
 -- the one k that a word can be good for with a given m
 abbrev k-of : ℕ → ℕ → ℕ
@@ -62,58 +76,48 @@ good-is {word} {k} g =
     ap (λ (n : ℕ). n / 2 ^ (23 - m)) rest ∙ shl-shr (k - 2 ^ m) (23 - m) in
     omega (arith, g .power)
 
--- the word is good for no k
-abbrev good-for-none : ℕ → Bool
-good-for-none word = every 13 (λ m. not (fits word (k-of word m) m))
+-- the word is good for the one k of some m
+abbrev found : ℕ → Bool
+found word = some 13 (λ m. fits word (k-of word m) m)
 
--- where that test passes, it is good for none
-good-for-none-means : (word k : ℕ) → T (good-for-none word) → Good word k → ⊥
-good-for-none-means word k t g =
+-- it is, where it is good for any k
+found-holds : {word k : ℕ} → Good word k → T (found word)
+found-holds {word} {k} g =
     let m = g .m in
     let small : m < 13 =
     by-cases (decLe 13 m) (λ l. absurd (omega (arith, pow-mono {i = 13} {j = m} l, g .power, g .to))) (λ l. omega arith) in
     let fit : T (fits word k m) =
     rw (le-leb _ _ (g .from), le-leb _ _ (g .to), le-leb _ _ (g .power), lt-ltb _ _ (g .greatest)) (yes-eqb (g .word-is)) in
-    T-not (fits word k m) fit (rw (good-is g) at (every-means 13 (λ m. not (fits word (k-of word m) m)) t m small))
+    some-holds 13 (λ m. fits word (k-of word m) m) small (rw (good-is g) fit)
 
--- a setting opens to a and b
-abbrev opens : Setting → ℕ → ℕ → Bool
-opens s a b = good-for (pitch-word s) a && good-for (radius-word s) b
+-- two tests that pass together are one
+one-test : (p q : Bool) → (T p → T q) → (T q → T p) → p ≡ q
+one-test true q f g = sym (is-true q (f tt))
+one-test false true f g = absurd (g tt)
+one-test false false f g = refl
 
--- where that test passes, it does
-opens-means : (s : Setting) (a b : ℕ) → T (opens s a b) → OpeningCall s 0 a b
-opens-means s a b t =
-    let opened : Opened s a b =
-    record {
-      pitch-good = good-for-means (pitch-word s) a (search parts);
-      radius-good = good-for-means (radius-word s) b (search parts);
-    } in
-    record { answered = rw (opened-good opened) refl; refused = λ n. tt; done = λ z. opened }
+-- so the test of row 8 need not try every k
+quick : (word : ℕ) → good-value word ≡ found word
+quick word =
+    one-test (good-value word) (found word) (λ t. found-holds (good-value-means word t .1))
+    (λ t.
+    let (m, l, u) = some-means 13 (λ m. fits word (k-of word m) m) t in good-value-holds (fits-means word (k-of word m) m u))
 
--- a setting does not open
-abbrev opens-not : Setting → Bool
-opens-not s = good-for-none (pitch-word s) || good-for-none (radius-word s)
+-- row 8 by the quick test
+abbrev pub bad : Setting → Bool
+bad s = not (found (pitch-word s)) || not (found (radius-word s))
 
--- where that test passes, it is bad
-opens-not-means : (s : Setting) → T (opens-not s) → bad-setting s ≡ true
-opens-not-means s t = by-test (bad-setting s) refl
-  where
-    none : (a b : ℕ) → Opened s a b → ⊥
-    none a b o =
-        ⊎-elim (λ u. good-for-none-means (pitch-word s) a u (o .pitch-good))
-        (λ u. good-for-none-means (radius-word s) b u (o .radius-good))
-        (or-yes (good-for-none (pitch-word s)) (good-for-none (radius-word s)) t)
-
-    by-test : (bad : Bool) → bad-setting s ≡ bad → bad-setting s ≡ true
-    by-test true e = e
-    by-test false e = let (a, b, o) = setting-good s e in absurd (none a b o)
+-- it is row 8
+pub bad-is : (s : Setting) → bad-setting s ≡ bad s
+unfolding bad-setting
+bad-is s = rw (quick (pitch-word s), quick (radius-word s)) refl
 
 -- the test of an edge
 abbrev passes : Edge → Bool
 passes (number computed stated) = eqb computed stated
 passes (call rows n) = eqb (answer rows) n
 passes (opening pitch radius a b) = opens (setting pitch radius) a b
-passes (no-opening pitch radius) = opens-not (setting pitch radius)
+passes (no-opening pitch radius) = bad (setting pitch radius)
 
 -- slices of one word are not refused
 one-word : bad-slices 1 1 ≡ false
@@ -124,9 +128,12 @@ one-word = refl
 sound : (e : Edge) → T (passes e) → EdgeHolds e
 sound (number computed stated) t = eqb-yes t
 sound (call rows n) t = eqb-yes t
-sound (opening pitch radius a b) t = opens-means (setting pitch radius) a b t
+sound (opening pitch radius a b) t =
+    let opened = opens-means (setting pitch radius) a b t in made-call (rw (opened-good opened) refl) opened
 sound (no-opening pitch radius) t =
-    let e = opens-not-means (setting pitch radius) t in (rw e refl, rw (one-word, e) refl)
+    let s = setting pitch radius in
+    let e : bad-setting s ≡ true = bad-is s ∙ is-true (bad s) t in
+    (rw e refl, rw (one-word, e) refl)
 
 -- all edges of a list pass
 abbrev all-pass : List Edge → Bool

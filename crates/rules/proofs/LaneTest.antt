@@ -21,20 +21,20 @@ use Rattle.rules.proofs.Order.{every, every-means}
 use Rattle.rules.proofs.LaneLabels.{Flooded, Next, Descends, best-by-labels}
 
 -- a condition with a test: where the test passes, the condition holds
-record Test (A : Type 0) : Type 0 where
-  passes : Bool
-  sound : T passes → A
+pub record Test (A : Type 0) : Type 0 where
+  pub passes : Bool
+  pub sound : T passes → A
 
 -- a test that never passes
-abbrev never : {A : Type 0} → Test A
+abbrev pub never : {A : Type 0} → Test A
 never = record { passes = false; sound = λ t. absurd t }
 
 -- a test of a condition tests what follows from it
-abbrev so : {A B : Type 0} → Test A → (A → B) → Test B
+abbrev pub so : {A B : Type 0} → Test A → (A → B) → Test B
 so t f = record { passes = t .passes; sound = λ s. f (t .sound s) }
 
 -- two conditions hold
-abbrev both : {A B : Type 0} → Test A → Test B → Test (A × B)
+abbrev pub both : {A B : Type 0} → Test A → Test B → Test (A × B)
 both s t = record {
   passes = s .passes && t .passes;
   sound = λ u. let r = and-yes (s .passes) (t .passes) u in (s .sound (r .0), t .sound (r .1));
@@ -51,14 +51,14 @@ implies-sound true b t s = t
 implies-sound false b t s = absurd s
 
 -- the second condition holds if the first does, on which a test is known to pass
-abbrev given : {A B : Type 0} (a : Bool) → (A → T a) → Test B → Test (A → B)
+abbrev pub given : {A B : Type 0} (a : Bool) → (A → T a) → Test B → Test (A → B)
 given a known t = record {
   passes = implies a (t .passes);
   sound = λ s x. t .sound (implies-sound a (t .passes) s (known x));
 }
 
 -- the condition holds of each number below n
-abbrev below : {P : ℕ → Type 0} (n : ℕ) → ((k : ℕ) → Test (P k)) → Test ((k : ℕ) → k < n → P k)
+abbrev pub below : {P : ℕ → Type 0} (n : ℕ) → ((k : ℕ) → Test (P k)) → Test ((k : ℕ) → k < n → P k)
 below n t = record {
   passes = every n (λ k. t k .passes);
   sound = λ s k l. t k .sound (every-means n (λ k. t k .passes) s k l);
@@ -69,15 +69,15 @@ abbrev at-most : (a b : ℕ) → Test (a ≤ b)
 at-most a b = record { passes = leb a b; sound = leb→le a b }
 
 -- a condition holds if one number is at most another
-abbrev if-at-most : {B : Type 0} (a b : ℕ) → Test B → Test (a ≤ b → B)
+abbrev pub if-at-most : {B : Type 0} (a b : ℕ) → Test B → Test (a ≤ b → B)
 if-at-most a b t = given (leb a b) (le→leb a b) t
 
 -- two numbers are the same
-abbrev same : (a b : ℕ) → Test (a ≡ b)
+abbrev pub same : (a b : ℕ) → Test (a ≡ b)
 same a b = record { passes = eqb a b; sound = eqb→eq a b }
 
 -- a condition holds if two numbers are the same
-abbrev if-same : {B : Type 0} (a b : ℕ) → Test B → Test (a ≡ b → B)
+abbrev pub if-same : {B : Type 0} (a b : ℕ) → Test B → Test (a ≡ b → B)
 if-same a b t = given (eqb a b) (λ e. yes-eqb e) t
 
 -- how many steps two cells are apart

@@ -119,20 +119,19 @@ bored-tests w picture i j = (eqb-yes, yes-eqb)
 
 module _ (w h kind d1 d2 : ℕ) (picture : List ℕ) (x y : ℕ) where
   -- d is the map word of the picture at (x, y)
-  abbrev map-word : ℕ → Bool
+  abbrev pub map-word : ℕ → Bool
   map-word d = least w h (bored w picture) (bore-word kind d1 d2 x y) d
 
   -- where that test passes, it is
-  map-word-means : (d : ℕ) → T (map-word d) → MapWord kind d1 d2 w h picture x y d
+  pub map-word-means : (d : ℕ) → T (map-word d) → MapWord kind d1 d2 w h picture x y d
   map-word-means d t = least-means w h (bored w picture) (bored-tests w picture) (bore-word kind d1 d2 x y) d t
 
-module _ (w h kind : ℕ) (picture : List ℕ) (x y : ℕ) where
   -- the cell of that number is the site of the picture at (x, y)
-  abbrev map-site : ℕ → Bool
-  map-site c = first w h (bored w picture) (site-keys (bore-word kind 0 0 x y) (away y)) (column w c) (row w c)
+  abbrev pub map-site : ℕ → Bool
+  map-site c = first w h (bored w picture) (site-keys (bore-word kind d1 d2 x y) (away y)) (column w c) (row w c)
 
   -- where that test passes, it is
-  map-site-means : (c : ℕ) → T (map-site c) → MapSite kind 0 0 w h picture x y c
+  pub map-site-means : (c : ℕ) → T (map-site c) → MapSite kind d1 d2 w h picture x y c
   map-site-means c t = record {
     i = column w c;
     j = row w c;
@@ -150,20 +149,20 @@ unmarked-tests w costs i j = (eqb-no, no-eqb)
 
 module _ (w h kind : ℕ) (costs : List ℕ) (x y : ℕ) where
   -- d is the map word of the costs at (x, y)
-  abbrev cost-map-word : ℕ → Bool
+  abbrev pub cost-map-word : ℕ → Bool
   cost-map-word d = least w h (unmarked w costs) (cost-word kind w costs x y) d
 
   -- where that test passes, it is
-  cost-map-word-means : (d : ℕ) → T (cost-map-word d) → CostMapWord kind w h costs x y d
+  pub cost-map-word-means : (d : ℕ) → T (cost-map-word d) → CostMapWord kind w h costs x y d
   cost-map-word-means d t =
       least-means w h (unmarked w costs) (unmarked-tests w costs) (cost-word kind w costs x y) d t
 
   -- the cell of that number is the site of the costs at (x, y)
-  abbrev cost-map-site : ℕ → Bool
+  abbrev pub cost-map-site : ℕ → Bool
   cost-map-site c = first w h (unmarked w costs) (site-keys (cost-word kind w costs x y) (λ _. 0)) (column w c) (row w c)
 
   -- where that test passes, it is
-  cost-map-site-means : (c : ℕ) → T (cost-map-site c) → CostMapSite kind w h costs x y c
+  pub cost-map-site-means : (c : ℕ) → T (cost-map-site c) → CostMapSite kind w h costs x y c
   cost-map-site-means c t = record {
     i = column w c;
     j = row w c;
@@ -174,13 +173,13 @@ module _ (w h kind : ℕ) (costs : List ℕ) (x y : ℕ) where
   }
 
 -- i is to the left of u, and p is the floor
-abbrev changes : ℕ → ℕ → ℕ → ℕ → ℤ → Bool
+abbrev pub changes : ℕ → ℕ → ℕ → ℕ → ℤ → Bool
 changes i u a b p =
     let q = floor (numerator i u a b) (divisor i u) in
     ltb i u && leZ p q && leZ q p
 
 -- where the test passes, p is the changeover
-changes-means : (i u a b : ℕ) (p : ℤ) → T (changes i u a b p) → Changeover i u a b p
+pub changes-means : (i u a b : ℕ) (p : ℤ) → T (changes i u a b p) → Changeover i u a b p
 changes-means i u a b p t =
     let e : floor (numerator i u a b) (divisor i u) ≡ p =
     ≤ℤ-antisymm (leZ-yes (search parts)) (leZ-yes (search parts)) in
@@ -188,12 +187,12 @@ changes-means i u a b p t =
 
 -- What convinces of a lane: the kind 0 word of each cell, and its label in a flood from the far end over the cells at
 -- least as wide as the lane, and in one over the wider cells.
-record Floods : Type 0 where
-  words : List ℕ
-  labels : List ℕ
-  wider : List ℕ
+pub record Floods : Type 0 where
+  pub words : List ℕ
+  pub labels : List ℕ
+  pub wider : List ℕ
 
-abbrev floods : List ℕ → List ℕ → List ℕ → Floods
+abbrev pub floods : List ℕ → List ℕ → List ℕ → Floods
 floods words labels wider = record { words = words; labels = labels; wider = wider }
 
 module _ (w h : ℕ) (picture : List ℕ) (from to broad : ℕ) (cells : List ℕ) (f : Floods) where
@@ -202,11 +201,11 @@ module _ (w h : ℕ) (picture : List ℕ) (from to broad : ℕ) (cells : List �
   right x y = map-word w h 0 0 0 picture x y (getD (f .words) (cell w x y) 0)
 
   -- the words are right, and by them the labels find the lane and its width
-  abbrev goes : Bool
+  abbrev pub goes : Bool
   goes = everywhere w h right && lane-test w h (f .words) from to broad cells (f .labels) (f .wider)
 
   -- where the test passes, the lane's sample holds
-  goes-means : T goes → WidestLane w h picture from to broad cells
+  pub goes-means : T goes → WidestLane w h picture from to broad cells
   goes-means t =
       let each = everywhere-means w h right (search parts) in
       let (best, is) = lane-test-sound w h (f .words) from to broad cells (f .labels) (f .wider) (search parts) in
@@ -229,7 +228,7 @@ others (f ∷ fs) = fs
 -- the test of a sample, given the floods of the lanes from it on
 abbrev passes : Sample → List Floods → Bool
 passes (picture-cell w h kind picture x y d site) fs =
-    map-word w h kind 0 0 picture x y d && map-site w h kind picture x y site
+    map-word w h kind 0 0 picture x y d && map-site w h kind 0 0 picture x y site
 passes (weighted-cell w h d1 d2 picture x y d) fs = map-word w h 3 d1 d2 picture x y d
 passes (cost-distances w h kind costs words) fs =
     everywhere w h (λ x y. cost-map-word w h kind costs x y (getD words (cell w x y) 0))
@@ -242,7 +241,7 @@ passes (lane w h picture from to broad cells) fs = goes w h picture from to broa
 -- a sample that passes holds
 sound : (s : Sample) (fs : List Floods) → T (passes s fs) → SampleHolds s
 sound (picture-cell w h kind picture x y d site) fs t =
-    (map-word-means w h kind 0 0 picture x y d (search parts), map-site-means w h kind picture x y site (search parts))
+    (map-word-means w h kind 0 0 picture x y d (search parts), map-site-means w h kind 0 0 picture x y site (search parts))
 sound (weighted-cell w h d1 d2 picture x y d) fs t = map-word-means w h 3 d1 d2 picture x y d t
 sound (cost-distances w h kind costs words) fs t = λ x y l m.
     cost-map-word-means w h kind costs x y (getD words (cell w x y) 0) (everywhere-means w h _ t x y l m)

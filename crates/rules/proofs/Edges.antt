@@ -29,7 +29,7 @@ use Rattle.rules.proofs.Calls.{made-call}
 use Rattle.rules.proofs.Samples.{parts}
 
 -- the word is that of the good value for k, with 2^m the greatest power of two not above k
-abbrev fits : ℕ → ℕ → ℕ → Bool
+abbrev pub fits : ℕ → ℕ → ℕ → Bool
 fits word k m =
     leb 1 k && leb k knob-limit && leb (2 ^ m) k && ltb k (2 ^ (m + 1)) && eqb word (good-word k m)
 
@@ -64,7 +64,7 @@ opens-means s a b t = record {
 }
 
 -- the one k that a word can be good for with a given m
-abbrev k-of : ℕ → ℕ → ℕ
+abbrev pub k-of : ℕ → ℕ → ℕ
 k-of word m = 2 ^ m + (word - (m + 121) * 2 ^ 23) / 2 ^ (23 - m)
 
 -- it is that k

@@ -18,4 +18,5 @@ pub mod StandIn
 pub mod Table
 pub mod Samples
 pub mod Edges
+pub mod Figures
 pub mod Pinned

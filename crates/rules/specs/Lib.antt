@@ -15,3 +15,4 @@ pub mod Answers
 pub mod Calls
 pub mod Samples
 pub mod Edges
+pub mod Figures

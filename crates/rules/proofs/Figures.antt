@@ -5,31 +5,34 @@
 -- tested cell by cell and word by word, with the tests of the samples for a map word, a site and a lane. What convinces of
 -- the lane are the labels of two floods, given here. The whole numbers of a clear map's setting are those that its words
 -- leave (`k-of`). Assumes nothing.
-use mathlib.Core.Path.{_≡_, refl}
-use mathlib.Core.Logic.{_≢_}
+use mathlib.Core.Path.{_≡_, refl, sym}
+use mathlib.Core.Logic.{by-cases}
 use mathlib.Core.Bool.{Bool, true, false, not, cond}
 use mathlib.Core.List.{List, [], _∷_}
-use Prim.Native.Nat.{ℕ, zero, suc, _*_, _≤_, _<_}
+use Prim.Native.Nat.{ℕ, zero, suc, _+_, _*_, _≤_, _<_}
+use native.Mathlib.Decide.{decLe}
+use native.Mathlib.Nat.{le-refl, mul-le-mul}
 use native.Mathlib.Omega.{arith}
 use lib.Dec.{eqb}
 use lib.IntN.{ℤ}
 use lib.Ieee.{toBits, size}
-use lib.ListN.{length, getD, take, drop}
+use lib.ListN.{length, getD, take, drop, getD-replicate}
 use mir.Facts.{no-eqb}
 use Rattle.rules.specs.declared.Setting.{Setting}
 use Rattle.rules.specs.Limits.{mark}
-use Rattle.rules.specs.Board.{cell, away}
+use Rattle.rules.specs.Board.{cell, away, Bored}
 use Rattle.rules.specs.Measures.{chamfer, chamfer-kind}
 use Rattle.rules.specs.Tie.{MapWord, CostMapWord, CostMapSite}
 use Rattle.rules.specs.Changeover.{Changeover}
 use Rattle.rules.specs.Knob.{pitch-word, radius-word, clear-byte}
-use Rattle.rules.specs.Lane.{WidestLane}
+use Rattle.rules.specs.BenchFile.{bored-by, BenchWord, Farthest}
 use Rattle.rules.specs.Answers.{opening-number, opening-a, opening-b, changeover-number, changeover-at}
-use Rattle.rules.specs.Answers.{lane-number, lane-width, lane-cells, bench-number}
+use Rattle.rules.specs.Answers.{lane-number, lane-width, lane-cells}
+use Rattle.rules.specs.Answers.{bench-number, bench-sites, bench-farthest, bench-cell}
 use Rattle.rules.specs.Refusals.{Row, row, answer, scratch-words, clear-rows, opening-rows}
 use Rattle.rules.specs.Refusals.{bad-sides, bad-kind, bad-weights, bad-buffers, bad-path, bad-slices, bad-byte}
 use Rattle.rules.specs.Refusals.{bad-cost, no-bore, all-marked, bad-ends, bad-changeover, bad-length}
-use Rattle.rules.specs.Calls.{Call, Buffers, Beyond, MapAfter, SiteWord, PictureAfter, LaneAfter, Opened, ClearAfter}
+use Rattle.rules.specs.Calls.{Call, Buffers, Beyond, MapAfter, SiteWord, PictureAfter, LaneAfter, Opened, ClearAfter, BenchRead}
 use Rattle.rules.specs.Figures.{Figure, picture-call, cost-call, lane-call, opening-call, clear-call}
 use Rattle.rules.specs.Figures.{changeover-call, bench-call, FigureHolds, AllHold, figures}
 use Rattle.rules.proofs.Calls.{refused-call, made-call}
@@ -170,6 +173,65 @@ clear-after s squares clear clear′ =
 abbrev changed : (i u a b : ℕ) (p : ℤ) → Test (Changeover i u a b p)
 changed i u a b p = record { passes = changes i u a b p; sound = changes-means i u a b p }
 
+-- the file of the one record (0, 0)
+abbrev corner : List ℕ
+corner = 0 ∷ 0 ∷ 0 ∷ 0 ∷ []
+
+-- it bores cell 0 and no other
+corner-only : (i j : ℕ) → i < 64 → j < 64 → Bored 64 (bored-by corner) i j → (i ≡ 0) × (j ≡ 0)
+corner-only i j l m e = at-cell (cell 64 i j) refl e
+  where
+    at-cell : (c : ℕ) → cell 64 i j ≡ c → getD (bored-by corner) c 0 ≡ 1 → (i ≡ 0) × (j ≡ 0)
+    at-cell zero q e = omega arith
+    at-cell (suc c) q e = absurd (omega (arith, getD-replicate {A = ℕ} 4095 c 0 0 (omega arith)))
+
+-- so the word of (x, y) is x² + y²
+corner-word : (x y d : ℕ) → BenchWord (bored-by corner) x y d → d ≡ x * x + y * y
+unfolding away
+corner-word x y d t =
+    let (e, f) = corner-only (t .i) (t .j) (t .column-in) (t .row-in) (t .feature) in
+    let dx : away x (t .i) ≡ x = omega arith in
+    let dy : away y (t .j) ≡ y = omega arith in
+    sym (rw (dx, dy) at (t .attained))
+
+-- the word of the far corner is the greatest, and no other cell has it
+corner-farthest : Farthest (bored-by corner) 7938 4095
+unfolding away
+corner-farthest = record {
+  x = 63;
+  y = 63;
+  column-in = omega arith;
+  row-in = omega arith;
+  number-is = refl;
+  attained = record {
+    i = 0;
+    j = 0;
+    column-in = omega arith;
+    row-in = omega arith;
+    feature = refl;
+    attained = refl;
+    least = λ i j l m k. let (e, f) = corner-only i j l m k in rw (e, f) (le-refl 7938);
+  };
+  greatest = λ x y d l m t. omega (arith, corner-word x y d t, square-most x 63 (omega arith), square-most y 63 (omega arith));
+  least-cell = λ x y l m t. last x y l m (corner-word x y 7938 t);
+}
+  where
+    square-most : (x n : ℕ) → x ≤ n → x * x ≤ n * n
+    square-most x n l = mul-le-mul l l
+
+    last : (x y : ℕ) → x < 64 → y < 64 → 7938 ≡ x * x + y * y → 4095 ≤ cell 64 x y
+    last x y l m e =
+        by-cases (decLe 63 x)
+        (λ a. by-cases (decLe 63 y) (λ b. omega arith)
+        (λ b. absurd (omega (arith, square-most x 63 (omega arith), square-most y 62 (omega arith)))))
+        (λ a. absurd (omega (arith, square-most x 62 (omega arith), square-most y 63 (omega arith))))
+
+-- the numbers of a bench file: those of that file alone are known here
+abbrev read : (bytes : List ℕ) (sites farthest number : ℕ) → Test (BenchRead bytes sites farthest number)
+read bytes sites farthest number =
+    so (both (both (same-list bytes corner) (same sites 1)) (both (same farthest 7938) (same number 4095)))
+    (λ t. rw (t .0 .0, t .0 .1, t .1 .0, t .1 .1) (record { sites-is = refl; farthest-is = corner-farthest }))
+
 -- the number of a call that tests a setting is that of its rows
 abbrev opening-is : (s : Setting) (n : ℕ) → Test (n ≡ answer (opening-rows s))
 opening-is s n = so (same n (answer (row 8 (bad s) ∷ []))) (λ e. rw (bad-is s) e)
@@ -194,7 +256,8 @@ figure labels wider (clear-call s squares clear n clear′) =
     ends n (clear-is s (length squares) (length clear) n) (same-list clear′ clear) (clear-after s squares clear clear′)
 figure labels wider (changeover-call i u a b r) =
     ends (changeover-number r) (same (changeover-number r) _) nothing (changed i u a b (changeover-at r))
-figure labels wider (bench-call bytes r) = ends (bench-number r) (same (bench-number r) _) nothing never
+figure labels wider (bench-call bytes r) =
+    ends (bench-number r) (same (bench-number r) _) nothing (read bytes (bench-sites r) (bench-farthest r) (bench-cell r))
 
 -- all figures of a list
 abbrev all : (labels wider : List ℕ) (fs : List Figure) → Test (AllHold fs)

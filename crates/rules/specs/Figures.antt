@@ -96,6 +96,8 @@ accepted =
     ∷ clear-call good (16 ∷ 15 ∷ []) (8 ∷ 8 ∷ []) 0 (1 ∷ 0 ∷ [])
     -- changeover 0, 1, a = 2,000,000, b = 0: −1,000,000
     ∷ changeover-call 0 1 2_000_000 0 (At (negsuc 999_999))
+    -- the one record (0, 0): sites 1, farthest 7938, cell 4095
+    ∷ bench-call (0 ∷ 0 ∷ 0 ∷ 0 ∷ []) (Read 1 7938 4095)
     ∷ []
 
 -- calls that are refused: the number alone, and everything as it was

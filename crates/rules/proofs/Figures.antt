@@ -2,12 +2,15 @@
 -- holds where the test passes (`Test`); the tests of all figures pass.
 --
 -- A call is tested by its number: what is done if it is 0, else that everything is as it was. What a map call leaves is
--- tested cell by cell and word by word, with the tests of the samples for a map word, a site and a lane. What convinces of
--- the lane are the labels of two floods, given here. The whole numbers of a clear map's setting are those that its words
--- leave (`k-of`). Assumes nothing.
+-- tested cell by cell and word by word, with the tests of the samples for a map word, a site and a lane. What a test
+-- compares is not written again but read from the rule (`_`, and implicit arguments): so a test follows a rule that is
+-- bent, and no longer passes. What convinces of the lane are the labels of two floods, given here. The whole numbers of
+-- a clear map's setting are those that its words leave (`k-of`). A board of 64 by 64 is too large for these tests; the
+-- numbers of the bench file are shown by hand: it bores the one cell (0, 0), so that the word of (x, y) is x² + y².
+-- Assumes nothing.
 use mathlib.Core.Path.{_≡_, refl, sym}
 use mathlib.Core.Logic.{by-cases}
-use mathlib.Core.Bool.{Bool, true, false, not, cond}
+use mathlib.Core.Bool.{true, not, cond}
 use mathlib.Core.List.{List, [], _∷_}
 use Prim.Native.Nat.{ℕ, zero, suc, _+_, _*_, _≤_, _<_}
 use native.Mathlib.Decide.{decLe}
@@ -16,30 +19,27 @@ use native.Mathlib.Omega.{arith}
 use lib.Dec.{eqb}
 use lib.IntN.{ℤ}
 use lib.Ieee.{toBits, size}
-use lib.ListN.{length, getD, take, drop, getD-replicate}
+use lib.ListN.{length, getD, drop, getD-replicate}
 use mir.Facts.{no-eqb}
 use Rattle.rules.specs.declared.Setting.{Setting}
-use Rattle.rules.specs.Limits.{mark}
-use Rattle.rules.specs.Board.{cell, away, Bored}
+use Rattle.rules.specs.Board.{cell, away, Bored, Unmarked}
 use Rattle.rules.specs.Measures.{chamfer, chamfer-kind}
-use Rattle.rules.specs.Tie.{MapWord, CostMapWord, CostMapSite}
+use Rattle.rules.specs.Tie.{Least, MapSite, CostMapSite}
 use Rattle.rules.specs.Changeover.{Changeover}
-use Rattle.rules.specs.Knob.{pitch-word, radius-word, clear-byte}
+use Rattle.rules.specs.Knob.{pitch-word, radius-word}
+use Rattle.rules.specs.Lane.{WidestLane}
 use Rattle.rules.specs.BenchFile.{bored-by, BenchWord, Farthest}
-use Rattle.rules.specs.Answers.{opening-number, opening-a, opening-b, changeover-number, changeover-at}
-use Rattle.rules.specs.Answers.{lane-number, lane-width, lane-cells}
-use Rattle.rules.specs.Answers.{bench-number, bench-sites, bench-farthest, bench-cell}
 use Rattle.rules.specs.Refusals.{Row, row, answer, scratch-words, clear-rows, opening-rows}
 use Rattle.rules.specs.Refusals.{bad-sides, bad-kind, bad-weights, bad-buffers, bad-path, bad-slices, bad-byte}
 use Rattle.rules.specs.Refusals.{bad-cost, no-bore, all-marked, bad-ends, bad-changeover, bad-length}
-use Rattle.rules.specs.Calls.{Call, Buffers, Beyond, MapAfter, SiteWord, PictureAfter, LaneAfter, Opened, ClearAfter, BenchRead}
+use Rattle.rules.specs.Calls.{Call, Buffers, Beyond, MapAfter, SiteWord, LaneAfter, Opened, ClearAfter, BenchRead}
 use Rattle.rules.specs.Figures.{Figure, picture-call, cost-call, lane-call, opening-call, clear-call}
 use Rattle.rules.specs.Figures.{changeover-call, bench-call, FigureHolds, AllHold, figures}
 use Rattle.rules.proofs.Calls.{refused-call, made-call}
 use Rattle.rules.proofs.LaneTest.{Test, never, so, both, given, below, if-at-most, same, if-same}
-use Rattle.rules.proofs.Samples.{map-word, map-word-means, map-site, map-site-means}
-use Rattle.rules.proofs.Samples.{cost-map-word, cost-map-word-means, cost-map-site, cost-map-site-means}
-use Rattle.rules.proofs.Samples.{changes, changes-means, floods, goes, goes-means}
+use Rattle.rules.proofs.Samples.{least, least-means, bored, bored-tests, unmarked, unmarked-tests}
+use Rattle.rules.proofs.Samples.{map-site, map-site-means, cost-map-site, cost-map-site-means}
+use Rattle.rules.proofs.Samples.{changes, changes-means, Floods, floods, goes, goes-means}
 use Rattle.rules.proofs.Edges.{fits, k-of, opens, opens-means, bad, bad-is}
 
 -- nothing is to be tested
@@ -78,14 +78,11 @@ abbrev on-board : {P : ℕ → ℕ → Type 0} (w h : ℕ) → ((x y : ℕ) → 
 on-board w h t = so (below w (λ x. below h (t x))) (λ f x y l m. f x l y m)
 
 -- what a map call leaves, by a test of its words and one of its sites
-abbrev map-after : (w h : ℕ) {Word Named : ℕ → ℕ → ℕ → Type 0} → ((x y d : ℕ) → Test (Word x y d))
-    → ((x y s : ℕ) → Test (Named x y s)) → (before after : Buffers) → Test (MapAfter w h Word Named before after)
-map-after w h word named before after =
-    so (both (both (on-board w h (λ x y. word x y (getD (after .distances) (cell w x y) 0)))
-    (both (on-board w h (λ x y. named x y (getD (after .sites) (cell w x y) 0)))
-    (below (scratch-words w h) (λ k. same (getD (after .scratch) k 0) 0))))
-    (both (beyond (w * h) (before .distances) (after .distances)) (both (beyond (w * h) (before .sites) (after .sites))
-    (beyond (scratch-words w h) (before .scratch) (after .scratch)))))
+abbrev map-after : {w h : ℕ} {Word Named : ℕ → ℕ → ℕ → Type 0} {before after : Buffers}
+    → ((x y d : ℕ) → Test (Word x y d)) → ((x y s : ℕ) → Test (Named x y s)) → Test (MapAfter w h Word Named before after)
+map-after {w} {h} word named =
+    so (both (both (on-board w h (λ x y. word x y _)) (both (on-board w h (λ x y. named x y _))
+    (below (scratch-words w h) (λ k. same _ _)))) (both (beyond _ _ _) (both (beyond _ _ _) (beyond _ _ _))))
     (λ t. record {
       words = t .0 .0;
       names = t .0 .1 .0;
@@ -95,53 +92,57 @@ map-after w h word named before after =
       scratch-beyond = t .1 .1 .1;
     })
 
-module _ (w h kind d1 d2 : ℕ) (picture : List ℕ) where
-  -- d is the map word of the picture at (x, y)
-  abbrev word : (x y d : ℕ) → Test (MapWord kind d1 d2 w h picture x y d)
-  word x y d = record {
-    passes = map-word w h kind d1 d2 picture x y d;
-    sound = map-word-means w h kind d1 d2 picture x y d;
+module _ {w h : ℕ} {word : ℕ → ℕ → ℕ} {n : ℕ} where
+  -- n is the least word of the bored cells of a picture
+  abbrev bore : (picture : List ℕ) → Test (Least w h (Bored w picture) word n)
+  bore picture = record {
+    passes = least w h (bored w picture) word n;
+    sound = least-means w h (bored w picture) (bored-tests w picture) word n;
   }
 
-  -- s is its site word
-  abbrev site : (x y s : ℕ) → Test (SiteWord kind d1 d2 w h picture x y s)
-  site x y s =
-      so (both (given (not (eqb kind chamfer-kind)) no-eqb (record {
-        passes = map-site w h kind d1 d2 picture x y s;
-        sound = map-site-means w h kind d1 d2 picture x y s;
-      })) (if-same kind chamfer-kind (same s mark))) (λ t. record { named = t .0; unnamed = t .1 })
-
-  -- what a map call of the picture leaves
-  abbrev picture-after : (before after : Buffers) → Test (PictureAfter w h kind d1 d2 picture before after)
-  picture-after before after = map-after w h word site before after
-
-module _ (w h kind : ℕ) (costs : List ℕ) (x y n : ℕ) where
-  -- n is the map word of the costs at (x, y)
-  abbrev cost-word : Test (CostMapWord kind w h costs x y n)
-  cost-word = record {
-    passes = cost-map-word w h kind costs x y n;
-    sound = cost-map-word-means w h kind costs x y n;
+  -- n is the least word of the unmarked cells of a cost picture
+  abbrev cost : (costs : List ℕ) → Test (Least w h (Unmarked w costs) word n)
+  cost costs = record {
+    passes = least w h (unmarked w costs) word n;
+    sound = least-means w h (unmarked w costs) (unmarked-tests w costs) word n;
   }
 
-  -- n is their site word
-  abbrev cost-site : Test (CostMapSite kind w h costs x y n)
-  cost-site = record {
-    passes = cost-map-site w h kind costs x y n;
-    sound = cost-map-site-means w h kind costs x y n;
-  }
+-- n is the site of a picture at (x, y), by the tie rule
+abbrev named : {kind d1 d2 w h : ℕ} {picture : List ℕ} {x y n : ℕ} → Test (MapSite kind d1 d2 w h picture x y n)
+named {kind} {d1} {d2} {w} {h} {picture} {x} {y} {n} = record {
+  passes = map-site w h kind d1 d2 picture x y n;
+  sound = map-site-means w h kind d1 d2 picture x y n;
+}
 
--- what a lane call leaves, by the labels of two floods from the far end
-abbrev lane-after : (labels wider : List ℕ) (w h : ℕ) (picture : List ℕ) (from to : ℕ) (before : Buffers) (path : List ℕ)
-    (broad cells : ℕ) (after : Buffers) (path′ : List ℕ)
+-- n is the site word of a picture there
+abbrev site : {kind d1 d2 w h : ℕ} {picture : List ℕ} {x y n : ℕ} → Test (SiteWord kind d1 d2 w h picture x y n)
+site {kind} =
+    so (both (given (not (eqb kind chamfer-kind)) no-eqb named) (if-same kind chamfer-kind (same _ _)))
+    (λ t. record { named = t .0; unnamed = t .1 })
+
+-- n is the site of a cost picture there
+abbrev cost-site : {kind w h : ℕ} {costs : List ℕ} {x y n : ℕ} → Test (CostMapSite kind w h costs x y n)
+cost-site {kind} {w} {h} {costs} {x} {y} {n} = record {
+  passes = cost-map-site w h kind costs x y n;
+  sound = cost-map-site-means w h kind costs x y n;
+}
+
+-- the cells are the widest lane, by the words of the board and the labels of two floods
+abbrev widest : {w h : ℕ} {picture : List ℕ} {from to broad : ℕ} {cells : List ℕ} (f : Floods)
+    → Test (WidestLane w h picture from to broad cells)
+widest {w} {h} {picture} {from} {to} {broad} {cells} f = record {
+  passes = goes w h picture from to broad cells f;
+  sound = goes-means w h picture from to broad cells f;
+}
+
+-- what a lane call leaves
+abbrev lane-after : {w h : ℕ} {picture : List ℕ} {from to : ℕ} {before : Buffers} {path : List ℕ} {broad cells : ℕ}
+    {after : Buffers} {path′ : List ℕ} (labels wider : List ℕ)
     → Test (LaneAfter w h picture from to before path broad cells after path′)
-lane-after labels wider w h picture from to before path broad cells after path′ =
-    let f = floods (after .distances) labels wider in
-    so (both (both (record {
-      passes = goes w h picture from to broad (take cells path′) f;
-      sound = goes-means w h picture from to broad (take cells path′) f;
-    }) (same (length (take cells path′)) cells))
-    (both (below (w * h) (λ k. if-at-most cells k (same (getD path′ k 0) mark)))
-    (both (beyond (w * h) path path′) (picture-after w h 0 0 0 picture before after))))
+lane-after {w} {h} {picture} {cells = cells} {after = after} labels wider =
+    so (both (both (widest (floods (after .distances) labels wider)) (same _ _))
+    (both (below (w * h) (λ k. if-at-most cells k (same _ _)))
+    (both (beyond _ _ _) (map-after (λ x y d. bore picture) (λ x y s. site)))))
     (λ t. record {
       found = t .0 .0;
       cells-is = t .0 .1;
@@ -151,8 +152,8 @@ lane-after labels wider w h picture from to before path broad cells after path�
     })
 
 -- a setting opens to a and b
-abbrev opened : (s : Setting) (a b : ℕ) → Test (Opened s a b)
-opened s a b = record { passes = opens s a b; sound = opens-means s a b }
+abbrev opened : {s : Setting} {a b : ℕ} → Test (Opened s a b)
+opened {s} {a} {b} = record { passes = opens s a b; sound = opens-means s a b }
 
 -- the k that a word is good for, if for any, looked for below m
 abbrev whole : ℕ → ℕ → ℕ
@@ -160,18 +161,20 @@ whole word zero = 0
 whole word (suc m) = cond (fits word (k-of word m) m) (k-of word m) (whole word m)
 
 -- what a clear map's call leaves
-abbrev clear-after : (s : Setting) (squares clear clear′ : List ℕ) → Test (ClearAfter s squares clear clear′)
-clear-after s squares clear clear′ =
-    let a = whole (pitch-word s) 13 in
-    let b = whole (radius-word s) 13 in
-    so (both (opened s a b) (both
-    (below (length squares) (λ k. same (getD clear′ k 0) (clear-byte a b (getD squares k 0))))
-    (same (length clear′) (length clear))))
-    (λ t. record { a = a; b = b; opened = t .0; bytes = t .1 .0; as-long = t .1 .1 })
+abbrev clear-after : {s : Setting} {squares clear clear′ : List ℕ} → Test (ClearAfter s squares clear clear′)
+clear-after {s} {squares} =
+    so (both opened (both (below (length squares) (λ k. same _ _)) (same _ _)))
+    (λ t. record {
+      a = whole (pitch-word s) 13;
+      b = whole (radius-word s) 13;
+      opened = t .0;
+      bytes = t .1 .0;
+      as-long = t .1 .1;
+    })
 
 -- p is the changeover
-abbrev changed : (i u a b : ℕ) (p : ℤ) → Test (Changeover i u a b p)
-changed i u a b p = record { passes = changes i u a b p; sound = changes-means i u a b p }
+abbrev changed : {i u a b : ℕ} {p : ℤ} → Test (Changeover i u a b p)
+changed {i} {u} {a} {b} {p} = record { passes = changes i u a b p; sound = changes-means i u a b p }
 
 -- the file of the one record (0, 0)
 abbrev corner : List ℕ
@@ -227,8 +230,8 @@ corner-farthest = record {
         (λ a. absurd (omega (arith, square-most x 62 (omega arith), square-most y 63 (omega arith))))
 
 -- the numbers of a bench file: those of that file alone are known here
-abbrev read : (bytes : List ℕ) (sites farthest number : ℕ) → Test (BenchRead bytes sites farthest number)
-read bytes sites farthest number =
+abbrev read : {bytes : List ℕ} {sites farthest number : ℕ} → Test (BenchRead bytes sites farthest number)
+read {bytes} {sites} {farthest} {number} =
     so (both (both (same-list bytes corner) (same sites 1)) (both (same farthest 7938) (same number 4095)))
     (λ t. rw (t .0 .0, t .0 .1, t .1 .0, t .1 .1) (record { sites-is = refl; farthest-is = corner-farthest }))
 
@@ -243,21 +246,15 @@ clear-is s squares clear n =
 -- a figure, with the labels of two floods for a lane
 abbrev figure : (labels wider : List ℕ) (f : Figure) → Test (FigureHolds f)
 figure labels wider (picture-call w h kind d1 d2 picture before n after) =
-    ends n (same n _) (same-buffers after before) (picture-after w h kind d1 d2 picture before after)
+    ends _ (same _ _) (same-buffers _ _) (map-after (λ x y d. bore picture) (λ x y s. site))
 figure labels wider (cost-call w h kind costs before n after) =
-    ends n (same n _) (same-buffers after before)
-    (map-after w h (cost-word w h kind costs) (cost-site w h kind costs) before after)
+    ends _ (same _ _) (same-buffers _ _) (map-after (λ x y d. cost costs) (λ x y s. cost-site))
 figure labels wider (lane-call w h picture from to before path r after path′) =
-    ends (lane-number r) (same (lane-number r) _) (both (same-buffers after before) (same-list path′ path))
-    (lane-after labels wider w h picture from to before path (lane-width r) (lane-cells r) after path′)
-figure labels wider (opening-call s r) =
-    ends (opening-number r) (opening-is s (opening-number r)) nothing (opened s (opening-a r) (opening-b r))
-figure labels wider (clear-call s squares clear n clear′) =
-    ends n (clear-is s (length squares) (length clear) n) (same-list clear′ clear) (clear-after s squares clear clear′)
-figure labels wider (changeover-call i u a b r) =
-    ends (changeover-number r) (same (changeover-number r) _) nothing (changed i u a b (changeover-at r))
-figure labels wider (bench-call bytes r) =
-    ends (bench-number r) (same (bench-number r) _) nothing (read bytes (bench-sites r) (bench-farthest r) (bench-cell r))
+    ends _ (same _ _) (both (same-buffers _ _) (same-list _ _)) (lane-after labels wider)
+figure labels wider (opening-call s r) = ends _ (opening-is s _) nothing opened
+figure labels wider (clear-call s squares clear n clear′) = ends _ (clear-is s _ _ _) (same-list _ _) clear-after
+figure labels wider (changeover-call i u a b r) = ends _ (same _ _) nothing changed
+figure labels wider (bench-call bytes r) = ends _ (same _ _) nothing read
 
 -- all figures of a list
 abbrev all : (labels wider : List ℕ) (fs : List Figure) → Test (AllHold fs)

@@ -60,7 +60,7 @@ abbrev none : ℕ → ℕ → (ℕ → ℕ → Bool) → (ℕ → ℕ → Bool) 
 none w h f p = everywhere w h (λ i j. not (f i j && p i j))
 
 -- d is the word of a feature, and no feature has a lesser one
-abbrev least : ℕ → ℕ → (ℕ → ℕ → Bool) → (ℕ → ℕ → ℕ) → ℕ → Bool
+abbrev pub least : ℕ → ℕ → (ℕ → ℕ → Bool) → (ℕ → ℕ → ℕ) → ℕ → Bool
 least w h f word d = one w h f (λ i j. eqb (word i j) d) && none w h f (λ i j. ltb (word i j) d)
 
 -- the cell in column i and row j is a feature of the board, and no feature's keys come before its own
@@ -85,7 +85,7 @@ module _ (w h : ℕ) {Feature : ℕ → ℕ → Type 0} (f : ℕ → ℕ → Boo
       (and-no (f i j) (p i j) (everywhere-means w h (λ i j. not (f i j && p i j)) t i j l m))
 
   -- where its test passes, d is the least word
-  least-means : (word : ℕ → ℕ → ℕ) (d : ℕ) → T (least w h f word d) → Least w h Feature word d
+  pub least-means : (word : ℕ → ℕ → ℕ) (d : ℕ) → T (least w h f word d) → Least w h Feature word d
   least-means word d t =
       let (i, j, l, m, feature, same) = one-means (λ i j. eqb (word i j) d) (search parts) in
       record {
@@ -110,20 +110,20 @@ module _ (w h : ℕ) {Feature : ℕ → ℕ → Type 0} (f : ℕ → ℕ → Boo
   }
 
 -- the cell in column i and row j is bored
-abbrev bored : ℕ → List ℕ → ℕ → ℕ → Bool
+abbrev pub bored : ℕ → List ℕ → ℕ → ℕ → Bool
 bored w picture i j = eqb (getD picture (cell w i j) 0) 1
 
 -- that is a test of bored cells
-bored-tests : (w : ℕ) (picture : List ℕ) → Tests (Bored w picture) (bored w picture)
+pub bored-tests : (w : ℕ) (picture : List ℕ) → Tests (Bored w picture) (bored w picture)
 bored-tests w picture i j = (eqb-yes, yes-eqb)
 
 module _ (w h kind d1 d2 : ℕ) (picture : List ℕ) (x y : ℕ) where
   -- d is the map word of the picture at (x, y)
-  abbrev pub map-word : ℕ → Bool
+  abbrev map-word : ℕ → Bool
   map-word d = least w h (bored w picture) (bore-word kind d1 d2 x y) d
 
   -- where that test passes, it is
-  pub map-word-means : (d : ℕ) → T (map-word d) → MapWord kind d1 d2 w h picture x y d
+  map-word-means : (d : ℕ) → T (map-word d) → MapWord kind d1 d2 w h picture x y d
   map-word-means d t = least-means w h (bored w picture) (bored-tests w picture) (bore-word kind d1 d2 x y) d t
 
   -- the cell of that number is the site of the picture at (x, y)
@@ -140,20 +140,20 @@ module _ (w h kind d1 d2 : ℕ) (picture : List ℕ) (x y : ℕ) where
   }
 
 -- the cell in column i and row j is unmarked
-abbrev unmarked : ℕ → List ℕ → ℕ → ℕ → Bool
+abbrev pub unmarked : ℕ → List ℕ → ℕ → ℕ → Bool
 unmarked w costs i j = not (eqb (cost-at w costs i j) mark)
 
 -- that is a test of unmarked cells
-unmarked-tests : (w : ℕ) (costs : List ℕ) → Tests (Unmarked w costs) (unmarked w costs)
+pub unmarked-tests : (w : ℕ) (costs : List ℕ) → Tests (Unmarked w costs) (unmarked w costs)
 unmarked-tests w costs i j = (eqb-no, no-eqb)
 
 module _ (w h kind : ℕ) (costs : List ℕ) (x y : ℕ) where
   -- d is the map word of the costs at (x, y)
-  abbrev pub cost-map-word : ℕ → Bool
+  abbrev cost-map-word : ℕ → Bool
   cost-map-word d = least w h (unmarked w costs) (cost-word kind w costs x y) d
 
   -- where that test passes, it is
-  pub cost-map-word-means : (d : ℕ) → T (cost-map-word d) → CostMapWord kind w h costs x y d
+  cost-map-word-means : (d : ℕ) → T (cost-map-word d) → CostMapWord kind w h costs x y d
   cost-map-word-means d t =
       least-means w h (unmarked w costs) (unmarked-tests w costs) (cost-word kind w costs x y) d t
 

@@ -2,7 +2,7 @@
 -- cites, and where an entry answers an enum, through `Answers`. The samples and the edges stop below: they speak of words,
 -- sites, lanes and rows. Here it shows which of them stands where in a call, and what the call leaves: a rule that takes
 -- one for another fails. `proofs/Figures.antt` proves the claim `AllHold` of the list. Assumes nothing.
-use mathlib.Core.Bool.{true, false}
+use mathlib.Core.Bool.{false}
 use mathlib.Core.List.{List, [], _∷_, _++_}
 use Prim.Native.Nat.{ℕ}
 use lib.IntN.{pos, negsuc}

@@ -28,6 +28,7 @@ use Rattle.rules.specs.Tie.{Least, MapSite, CostMapSite}
 use Rattle.rules.specs.Changeover.{Changeover}
 use Rattle.rules.specs.Knob.{pitch-word, radius-word}
 use Rattle.rules.specs.Lane.{WidestLane}
+use Rattle.rules.specs.Answers.{bench-number, bench-sites, bench-farthest, bench-cell}
 use Rattle.rules.specs.BenchFile.{bored-by, BenchWord, Farthest}
 use Rattle.rules.specs.Refusals.{Row, row, answer, scratch-words, clear-rows, opening-rows}
 use Rattle.rules.specs.Refusals.{bad-sides, bad-kind, bad-weights, bad-buffers, bad-path, bad-slices, bad-byte}
@@ -254,7 +255,19 @@ figure labels wider (lane-call w h picture from to before path r after path′) 
 figure labels wider (opening-call s r) = ends _ (opening-is s _) nothing opened
 figure labels wider (clear-call s squares clear n clear′) = ends _ (clear-is s _ _ _) (same-list _ _) clear-after
 figure labels wider (changeover-call i u a b r) = ends _ (same _ _) nothing changed
-figure labels wider (bench-call bytes r) = ends _ (same _ _) nothing read
+figure labels wider (bench-call bytes r output) =
+    so (both (ends _ (same _ _) nothing read) (same-list output _))
+    (λ t. (
+      t .0,
+      record {
+        number = bench-number r;
+        sites = bench-sites r;
+        farthest = bench-farthest r;
+        cell-number = bench-cell r;
+        call = t .0;
+        output-is = t .1;
+      },
+    ))
 
 -- all figures of a list
 abbrev all : (labels wider : List ℕ) (fs : List Figure) → Test (AllHold fs)

@@ -17,11 +17,12 @@ use Rattle.rules.specs.declared.LaneAnswer.{LaneAnswer}
 use Rattle.rules.specs.declared.LaneAnswer.the-variants.{Found, Refused as NoLane}
 use Rattle.rules.specs.declared.BenchAnswer.{BenchAnswer}
 use Rattle.rules.specs.declared.BenchAnswer.the-variants.{Read, Refused as NotRead}
+use Rattle.rules.specs.BenchFile.{text}
 use Rattle.rules.specs.Answers.{opening-number, opening-a, opening-b, changeover-number, changeover-at}
 use Rattle.rules.specs.Answers.{lane-number, lane-width, lane-cells}
 use Rattle.rules.specs.Answers.{bench-number, bench-sites, bench-farthest, bench-cell}
 use Rattle.rules.specs.Calls.{Buffers, buffers, PictureCall, CostCall, LaneCall, OpeningCall, ClearCall}
-use Rattle.rules.specs.Calls.{ChangeoverCall, BenchCall}
+use Rattle.rules.specs.Calls.{ChangeoverCall, BenchCall, BenchPrints}
 use Rattle.rules.specs.Edges.{setting}
 
 pub data Figure : Type 0 where
@@ -37,8 +38,8 @@ pub data Figure : Type 0 where
   clear-call : Setting → List ℕ → List ℕ → ℕ → List ℕ → Figure
   -- i, u, a, b; the answer
   changeover-call : ℕ → ℕ → ℕ → ℕ → ChangeoverAnswer → Figure
-  -- the bytes of the file; the answer
-  bench-call : List ℕ → BenchAnswer → Figure
+  -- the bytes of the file; the answer, and the text that is printed
+  bench-call : List ℕ → BenchAnswer → List ℕ → Figure
 
 -- what a figure says of the rules
 abbrev pub FigureHolds : Figure → Type 0
@@ -49,7 +50,8 @@ FigureHolds (lane-call w h picture from to before path r after path′) =
 FigureHolds (opening-call s r) = OpeningCall s (opening-number r) (opening-a r) (opening-b r)
 FigureHolds (clear-call s squares clear n clear′) = ClearCall s squares clear n clear′
 FigureHolds (changeover-call i u a b r) = ChangeoverCall i u a b (changeover-number r) (changeover-at r)
-FigureHolds (bench-call bytes r) = BenchCall bytes (bench-number r) (bench-sites r) (bench-farthest r) (bench-cell r)
+FigureHolds (bench-call bytes r output) =
+    BenchCall bytes (bench-number r) (bench-sites r) (bench-farthest r) (bench-cell r) × BenchPrints bytes output
 
 -- the one claim: every figure of a list holds
 abbrev pub AllHold : List Figure → Type 0
@@ -96,8 +98,8 @@ accepted =
     ∷ clear-call good (16 ∷ 15 ∷ []) (8 ∷ 8 ∷ []) 0 (1 ∷ 0 ∷ [])
     -- changeover 0, 1, a = 2,000,000, b = 0: −1,000,000
     ∷ changeover-call 0 1 2_000_000 0 (At (negsuc 999_999))
-    -- the one record (0, 0): sites 1, farthest 7938, cell 4095
-    ∷ bench-call (0 ∷ 0 ∷ 0 ∷ 0 ∷ []) (Read 1 7938 4095)
+    -- the one record (0, 0): sites 1, farthest 7938, cell 4095 (`sample-text` has the bytes of the text)
+    ∷ bench-call (0 ∷ 0 ∷ 0 ∷ 0 ∷ []) (Read 1 7938 4095) (text 0 1 7938 4095)
     ∷ []
 
 -- calls that are refused: the number alone, and everything as it was
@@ -109,7 +111,7 @@ refused =
     ∷ opening-call bad NotOpened
     ∷ clear-call bad (16 ∷ 15 ∷ []) (8 ∷ 9 ∷ []) 8 (8 ∷ 9 ∷ [])
     ∷ changeover-call 1 1 0 0 NoChangeover
-    ∷ bench-call [] (NotRead 6)
+    ∷ bench-call [] (NotRead 6) (text 6 0 0 0)
     ∷ []
 
 -- all of them

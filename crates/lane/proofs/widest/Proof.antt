@@ -7,10 +7,6 @@ use borrow.Author.Needs.{needs}
 use Rattle.lane.proofs.widest.Statement.{statement}
 use Rattle.lane.proofs.widest.Tie as tie
 
--- the way back from the end to the lane
-abbrev found : tie.After-slice-known8 → tie.After-accepted-lane
-found c = c .before .before .before .before .before .before .before .before
-
 lane-refusal-requires : tie.Need-lane-refusal-requires
 lane-refusal-requires c κs = search needs
 
@@ -33,6 +29,10 @@ same-length-3 c = search needs
 
 same-length-4 : tie.Need-same-length-4
 same-length-4 c = search needs
+
+-- the way back from the end to the lane
+abbrev found : tie.After-slice-known8 → tie.After-accepted-lane
+found c = c .before .before .before .before .before .before .before .before
 
 returns-2 : tie.Need-returns-2
 returns-2 c =

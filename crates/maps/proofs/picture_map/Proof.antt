@@ -7,10 +7,6 @@ use borrow.Author.Needs.{needs}
 use Rattle.maps.proofs.picture_map.Statement.{statement}
 use Rattle.maps.proofs.picture_map.Tie as tie
 
--- the way back from the end to the map
-abbrev made : tie.After-slice-known6 → tie.After-accepted-map
-made c = c .before .before .before .before .before .before
-
 picture-refusal-requires : tie.Need-picture-refusal-requires
 picture-refusal-requires c κs = search needs
 
@@ -30,6 +26,10 @@ same-length-2 c = search needs
 
 same-length-3 : tie.Need-same-length-3
 same-length-3 c = search needs
+
+-- the way back from the end to the map
+abbrev made : tie.After-slice-known6 → tie.After-accepted-map
+made c = c .before .before .before .before .before .before
 
 returns-2 : tie.Need-returns-2
 returns-2 c =

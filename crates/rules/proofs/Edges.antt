@@ -1,5 +1,5 @@
--- The rules say what document 01 says at every edge of its rows. Of each edge there is a test that computes, and where the
--- test passes the edge holds; the tests of all edges pass.
+-- The rules say what documents 01 and 02 say at every edge of their rows. Of each edge there is a test that computes, and
+-- where the test passes the edge holds; the tests of all edges pass.
 --
 -- Two numbers are compared. A value of a setting is tested for each m below 13: the word and m leave one k
 -- (`good-is`), so there is no need to try every k as row 8 does (`quick`). Assumes nothing.
@@ -22,6 +22,7 @@ use Rattle.rules.specs.Knob.{Good, good-word, pitch-word, radius-word}
 use Rattle.rules.specs.Refusals.{some, answer, bad-setting}
 use Rattle.rules.specs.Refusals.{bad-sides, bad-kind, bad-weights, bad-buffers, bad-path, bad-slices, bad-byte}
 use Rattle.rules.specs.Refusals.{bad-cost, no-bore, all-marked, bad-ends, good-value, bad-changeover, bad-length}
+use Rattle.rules.specs.Refusals.{bad-line, bad-word}
 use Rattle.rules.specs.Calls.{Opened}
 use Rattle.rules.specs.Edges.{Edge, number, call, opening, no-opening, setting, EdgeHolds, Met, edges}
 use Rattle.rules.proofs.Knob.{some-means, some-holds, good-value-means, good-value-holds, opened-good}
@@ -148,5 +149,5 @@ met-by (e ∷ es) t = (sound e (search parts), met-by es (search parts))
 -- every edge holds: all tests pass, once the tests of the rows and the words of values compute
 pub edges-met : Met edges
 unfolding bad-sides bad-kind bad-weights bad-buffers bad-path bad-slices bad-byte bad-cost no-bore all-marked bad-ends
-    good-value bad-setting bad-changeover bad-length toBits size
+    good-value bad-setting bad-changeover bad-length bad-line bad-word toBits size
 edges-met = met-by edges tt

@@ -1,29 +1,31 @@
--- Every call in figures is a call by the rules. Of each there is a test that computes, together with the proof that the call
--- holds where the test passes (`Test`); the tests of all figures pass.
+-- Every call in figures is a call by the rules. Of each there is a test that computes, together with the proof that the
+-- call holds where the test passes (`Test`); the tests of all figures pass.
 --
 -- A call is tested by its number: what is done if it is 0, else that everything is as it was. What a map call leaves is
 -- tested cell by cell and word by word, with the tests of the samples for a map word, a site and a lane. What a test
 -- compares is not written again but read from the rule (`_`, and implicit arguments): so a test follows a rule that is
--- bent, and no longer passes. What convinces of the lane are the labels of two floods, given here. The whole numbers of
--- a clear map's setting are those that its words leave (`k-of`). A board of 64 by 64 is too large for these tests; the
--- numbers of the bench file are shown by hand: it bores the one cell (0, 0), so that the word of (x, y) is x² + y².
--- Assumes nothing.
+-- bent, and no longer passes. The column that a row line takes is that of its site word. What convinces of the lane are the
+-- labels of two floods, given here. The whole numbers of a clear map's setting are those that its words leave (`k-of`). A
+-- board of 64 by 64 is too large for these tests; the numbers of the bench file are shown by hand: it bores the one cell
+-- (0, 0), so that the word of (x, y) is x² + y². Assumes nothing.
 use mathlib.Core.Path.{_≡_, refl, sym}
-use mathlib.Core.Logic.{by-cases}
-use mathlib.Core.Bool.{true, not, cond}
+use mathlib.Core.Logic.{_≢_, by-cases}
+use mathlib.Core.Bool.{true, not, cond, _&&_}
 use mathlib.Core.List.{List, [], _∷_}
 use Prim.Native.Nat.{ℕ, zero, suc, _+_, _*_, _≤_, _<_}
 use native.Mathlib.Decide.{decLe}
 use native.Mathlib.Nat.{le-refl, mul-le-mul}
 use native.Mathlib.Omega.{arith}
-use lib.Dec.{eqb}
+use lib.Dec.{leb, eqb, leb→le}
 use lib.IntN.{ℤ}
 use lib.Ieee.{toBits, size}
 use lib.ListN.{length, getD, drop, getD-replicate}
-use mir.Facts.{no-eqb}
+use mir.Facts.{not-T, and-yes, eqb-no, no-eqb}
 use Rattle.rules.specs.declared.Setting.{Setting}
-use Rattle.rules.specs.Board.{cell, away, Bored, Unmarked}
+use Rattle.rules.specs.Limits.{mark}
+use Rattle.rules.specs.Board.{cell, column, away, Bored, Unmarked}
 use Rattle.rules.specs.Measures.{chamfer, chamfer-kind}
+use Rattle.rules.specs.Columns.{Nearest, ColumnWord, RowWord}
 use Rattle.rules.specs.Tie.{Least, MapSite, CostMapSite}
 use Rattle.rules.specs.Changeover.{Changeover}
 use Rattle.rules.specs.Knob.{pitch-word, radius-word}
@@ -33,9 +35,12 @@ use Rattle.rules.specs.BenchFile.{bored-by, BenchWord, Farthest}
 use Rattle.rules.specs.Refusals.{Row, row, answer, scratch-words, clear-rows, opening-rows}
 use Rattle.rules.specs.Refusals.{bad-sides, bad-kind, bad-weights, bad-buffers, bad-path, bad-slices, bad-byte}
 use Rattle.rules.specs.Refusals.{bad-cost, no-bore, all-marked, bad-ends, bad-changeover, bad-length}
+use Rattle.rules.specs.Refusals.{bad-line, bad-word}
 use Rattle.rules.specs.Calls.{Call, Buffers, Beyond, MapAfter, SiteWord, LaneAfter, Opened, ClearAfter, BenchRead}
-use Rattle.rules.specs.Figures.{Figure, picture-call, cost-call, lane-call, opening-call, clear-call}
-use Rattle.rules.specs.Figures.{changeover-call, bench-call, FigureHolds, AllHold, figures}
+use Rattle.rules.specs.Slices.{allowed, Among, SliceAfter, Chain}
+use Rattle.rules.specs.Figures.{Figure, picture-call, cost-call, lane-call, slice-call, chain, opening-call}
+use Rattle.rules.specs.Figures.{clear-call, changeover-call, bench-call, Slice, budgets, left, FigureHolds, AllHold}
+use Rattle.rules.specs.Figures.{figures}
 use Rattle.rules.proofs.Calls.{refused-call, made-call}
 use Rattle.rules.proofs.LaneTest.{Test, never, so, both, given, below, if-at-most, same, if-same}
 use Rattle.rules.proofs.Samples.{least, least-means, bored, bored-tests, unmarked, unmarked-tests}
@@ -46,6 +51,18 @@ use Rattle.rules.proofs.Edges.{fits, k-of, opens, opens-means, bad, bad
 -- nothing is to be tested
 abbrev nothing : Test (Unit {0})
 nothing = record { passes = true; sound = λ t. t }
+
+-- one number is at most another
+abbrev up-to : (a b : ℕ) → Test (a ≤ b)
+up-to a b = record { passes = leb a b; sound = leb→le a b }
+
+-- two numbers differ
+abbrev differ : (a b : ℕ) → Test (a ≢ b)
+differ a b = record { passes = not (eqb a b); sound = eqb-no }
+
+-- a condition holds if two numbers differ
+abbrev if-differ : {B : Type 0} (a b : ℕ) → Test B → Test (a ≢ b → B)
+if-differ a b t = given (not (eqb a b)) no-eqb t
 
 -- two lists are the same
 abbrev same-list : (l m : List ℕ) → Test (l ≡ m)
@@ -118,7 +135,7 @@ named {kind} {d1} {d2} {w} {h} {picture} {x} {y} {n} = record {
 -- n is the site word of a picture there
 abbrev site : {kind d1 d2 w h : ℕ} {picture : List ℕ} {x y n : ℕ} → Test (SiteWord kind d1 d2 w h picture x y n)
 site {kind} =
-    so (both (given (not (eqb kind chamfer-kind)) no-eqb named) (if-same kind chamfer-kind (same _ _)))
+    so (both (if-differ kind chamfer-kind named) (if-same kind chamfer-kind (same _ _)))
     (λ t. record { named = t .0; unnamed = t .1 })
 
 -- n is the site of a cost picture there
@@ -151,6 +168,90 @@ lane-after {w} {h} {picture} {cells = cells} {after = after} labels wider =
       path-beyond = t .1 .1 .0;
       map-after = t .1 .1 .1;
     })
+
+-- a condition holds of line k if it is one of those from `line` up to `next`
+abbrev if-among : {B : Type 0} (line next k : ℕ) → Test B → Test (Among line next k → B)
+if-among line next k t = so (if-at-most line k (if-at-most (suc k) next t)) (λ f a. f (a .0) (a .1))
+
+-- a condition holds of line k if it is none of them
+abbrev if-not-among : {B : Type 0} (line next k : ℕ) → Test B → Test ((Among line next k → ⊥) → B)
+if-not-among line next k t =
+    given (not (leb line k && leb (suc k) next))
+    (λ other. not-T (leb line k && leb (suc k) next) (λ u.
+    let (from, to) = and-yes (leb line k) (leb (suc k) next) u in
+    other (leb→le line k from, leb→le (suc k) next to)))
+    t
+
+module _ (w : ℕ) (picture : List ℕ) (x : ℕ) {h : ℕ} {rank : ℕ → ℕ} where
+  -- j is the nearest bored row of the column x
+  abbrev nearest-row : (j : ℕ) → Test (Nearest h (Bored w picture x) rank j)
+  nearest-row j =
+      so (both (both (up-to (suc j) h) (same _ _)) (both (below h (λ j′. if-same _ _ (up-to (rank j) (rank j′))))
+      (below h (λ j′. if-same _ _ (if-same (rank j′) (rank j) (up-to j j′))))))
+      (λ t. record { row-in = t .0 .0; feature = t .0 .1; nearest = t .1 .0; upper = t .1 .1 })
+
+  -- the word is that of the column
+  abbrev column-word : (word : ℕ) → Test (ColumnWord h (Bored w picture x) rank word)
+  column-word word =
+      so (both (if-differ word mark (nearest-row word)) (if-same word mark (below h (λ j. if-same _ _ never))))
+      (λ t. record { named = t .0; empty = t .1 })
+
+-- d and the site are what a row line makes of its words
+abbrev row-word : {w : ℕ} {combine : ℕ → ℕ → ℕ} {words value : ℕ → ℕ} {x : ℕ} (d site : ℕ)
+    → Test (RowWord w combine words value x d site)
+row-word {w} {combine} {words} {value} {x} d site =
+    let i : ℕ = column w site in
+    so (both (both (up-to (suc i) w) (differ (words i) mark)) (both (both (same _ _) (same _ _))
+    (both (below w (λ i′. if-differ (words i′) mark (up-to d _)))
+    (below w (λ i′. if-differ (words i′) mark (if-same _ d (up-to i i′)))))))
+    (λ t. record {
+      i = i;
+      column-in = t .0 .0;
+      unmarked = t .0 .1;
+      word-is = t .1 .0 .0;
+      site-is = t .1 .0 .1;
+      least = t .1 .1 .0;
+      least-column = t .1 .1 .1;
+    })
+
+-- what a slice call has done whose start refuses nothing
+abbrev slice-after : {w h kind line budget : ℕ} {picture : List ℕ} {before : Buffers} {number finished next : ℕ}
+    {after : Buffers} → Test (SliceAfter w h kind line budget picture before number finished next after)
+slice-after {w} {h} {line = line} {budget} {picture} {number = number} {finished} {next} =
+    so (both (both (both (up-to finished (allowed w h line budget)) (same _ _))
+    (both (below next (λ k. if-at-most line k (same _ _)))
+    (both (if-same finished (allowed w h line budget) (same _ _))
+    (if-at-most (suc finished) (allowed w h line budget) (both (same _ _) (differ number 0))))))
+    (both (both (on-board w h (λ x y. if-among line next x (column-word w picture x _)))
+    (on-board w h (λ x y. if-among line next (w + y) (row-word _ _))))
+    (both (both (on-board w h (λ x y. if-not-among line next x (same _ _)))
+    (on-board w h (λ x y. if-not-among line next (w + y) (both (same _ _) (same _ _)))))
+    (both (below (scratch-words w h) (λ k. if-at-most (w * h) k (same _ _)))
+    (both (beyond _ _ _) (both (beyond _ _ _) (beyond _ _ _)))))))
+    (λ t. record {
+      at-most = t .0 .0 .0;
+      next-is = t .0 .0 .1;
+      none-stops = λ k a. t .0 .1 .0 k (a .1) (a .0);
+      all-finished = t .0 .1 .1 .0;
+      stopped = t .0 .1 .1 .1;
+      column-words = t .1 .0 .0;
+      row-words = t .1 .0 .1;
+      other-columns = t .1 .1 .0 .0;
+      other-rows = t .1 .1 .0 .1;
+      tail-zero = λ k l m. t .1 .1 .1 .0 k m l;
+      distances-beyond = t .1 .1 .1 .1 .0;
+      sites-beyond = t .1 .1 .1 .1 .1 .0;
+      scratch-beyond = t .1 .1 .1 .1 .1 .1;
+    })
+
+-- calls lead from a line and its buffers to another
+abbrev chained : (w h kind : ℕ) (picture : List ℕ) (slices : List Slice) (line : ℕ) (before : Buffers) (end : ℕ)
+    → Test (Chain w h kind picture (budgets slices) line before end (left before slices))
+chained w h kind picture [] line before end = so (same end line) (λ e. (e, refl))
+chained w h kind picture (s ∷ ss) line before end =
+    so (both (ends 0 (same _ _) (both (same _ _) (same-buffers _ _)) slice-after)
+    (chained w h kind picture ss (s .next) (s .after) end))
+    (λ t. (s .finished, s .next, s .after, t .0, t .1))
 
 -- a setting opens to a and b
 abbrev opened : {s : Setting} {a b : ℕ} → Test (Opened s a b)
@@ -252,6 +353,9 @@ figure labels wider (cost-call w h kind costs before n after) =
     ends _ (same _ _) (same-buffers _ _) (map-after (λ x y d. cost costs) (λ x y s. cost-site))
 figure labels wider (lane-call w h picture from to before path r after path′) =
     ends _ (same _ _) (both (same-buffers _ _) (same-list _ _)) (lane-after labels wider)
+figure labels wider (slice-call w h kind line budget picture before r after) =
+    ends _ (same _ _) (both (same _ _) (same-buffers _ _)) slice-after
+figure labels wider (chain w h kind picture before slices) = chained w h kind picture slices 0 before (w + h)
 figure labels wider (opening-call s r) = ends _ (opening-is s _) nothing opened
 figure labels wider (clear-call s squares clear n clear′) = ends _ (clear-is s _ _ _) (same-list _ _) clear-after
 figure labels wider (changeover-call i u a b r) = ends _ (same _ _) nothing changed
@@ -278,5 +382,5 @@ all labels wider (f ∷ fs) = both (figure labels wider f) (all labels wider fs)
 -- compute
 pub figures-hold : AllHold figures
 unfolding bad-sides bad-kind bad-weights bad-buffers bad-path bad-slices bad-byte bad-cost no-bore all-marked bad-ends
-    bad-changeover bad-length toBits size away chamfer
+    bad-changeover bad-length bad-line bad-word toBits size away chamfer
 figures-hold = all (5 ∷ 0 ∷ 1 ∷ 2 ∷ 4 ∷ 3 ∷ 2 ∷ 3 ∷ []) (0 ∷ 0 ∷ 0 ∷ 0 ∷ 0 ∷ 0 ∷ 0 ∷ 0 ∷ []) figures .sound tt

@@ -9,6 +9,7 @@ pub mod Knob
 pub mod KnobValue
 pub mod BenchFile
 pub mod Refusals
+pub mod SliceRows
 pub mod Calls
 pub mod Lane
 pub mod LaneLabels
@@ -20,3 +21,4 @@ pub mod Samples
 pub mod Edges
 pub mod Figures
 pub mod Pinned
+pub mod Slices

@@ -49,13 +49,13 @@ use Rattle.rules.proofs.Lane.{best-unique-words}
 use Rattle.rules.proofs.Refusals.{clear-accepted}
 
 -- two calls of one table of rows answer one number, and where it is 0 what they leave agrees
-agreed : {rows : List Row} {n n′ : ℕ} {Kept Kept′ Done Done′ Same : Type 0} → Call rows n Kept Done
+pub agreed : {rows : List Row} {n n′ : ℕ} {Kept Kept′ Done Done′ Same : Type 0} → Call rows n Kept Done
     → Call rows n′ Kept′ Done′ → (Done → Done′ → Same) → (n ≡ n′) × (n ≡ 0 → Same)
 agreed p q one =
     (p .answered ∙ sym (q .answered), λ z. one (p .done z) (q .done (q .answered ∙ sym (p .answered) ∙ z)))
 
 -- what a refusal leaves as it was, and an accepted call leaves in one way, is left in one way
-settled : {A : Type 0} {n n′ : ℕ} {before after after′ : A} → n ≡ n′ → (n ≢ 0 → after ≡ before)
+pub settled : {A : Type 0} {n n′ : ℕ} {before after after′ : A} → n ≡ n′ → (n ≢ 0 → after ≡ before)
     → (n′ ≢ 0 → after′ ≡ before) → (n ≡ 0 → after ≡ after′) → after ≡ after′
 settled {n = n} same kept kept′ done =
     by-cases (ℕ-discrete n 0) done (λ z. kept z ∙ sym (kept′ (λ e. z (same ∙ e))))
@@ -69,13 +69,13 @@ after-pinned p q one =
     (same, settled same (p .refused) (q .refused) left)
 
 -- what every cell of the board has, every number below w·h has
-each-cell : (w : ℕ) {h : ℕ} (P : ℕ → Type 0) → ((x y : ℕ) → x < w → y < h → P (cell w x y)) → (c : ℕ) → c < w * h → P c
+pub each-cell : (w : ℕ) {h : ℕ} (P : ℕ → Type 0) → ((x y : ℕ) → x < w → y < h → P (cell w x y)) → (c : ℕ) → c < w * h → P c
 each-cell zero P all c l = absurd (omega arith)
 each-cell (suc w) P all c l =
     rw (cell-of (suc w) c) at (all _ _ (column-below c (omega arith)) (row-below (suc w) l))
 
 -- two lists that agree at every place below n, and from there on are one list as it was, are equal
-lists-pinned : {n : ℕ} {before a b : List ℕ} → Beyond n before a → Beyond n before b
+pub lists-pinned : {n : ℕ} {before a b : List ℕ} → Beyond n before a → Beyond n before b
     → ((k : ℕ) → k < n → getD a k 0 ≡ getD b k 0) → a ≡ b
 lists-pinned {n} {before} {a} {b} p q below =
     ext-getD 0 a b (cc) (λ k l. by-cases (decLt k n) (below k) (λ far. beyond k (omega arith)))

@@ -4,10 +4,10 @@ use mathlib.Core.Path.{_≡_}
 use mathlib.Core.Logic.{_⊎_}
 use mathlib.Core.Bool.{false}
 use mathlib.Core.List.{List}
-use Prim.Native.Nat.{ℕ, _*_, _%_, _≤_, _<_}
+use Prim.Native.Nat.{ℕ, _+_, _*_, _%_, _≤_, _<_}
 use lib.ListN.{length, getD}
 use Rattle.rules.specs.declared.Setting.{Setting}
-use Rattle.rules.specs.Limits.{mark, kind-limit, cost-kind-limit, cost-limit, column-limit, value-limit, clear-limit, file-limit, bench-side}
+use Rattle.rules.specs.Limits.{mark, kind-limit, cost-kind-limit, slice-kind-limit, cost-limit, column-limit, value-limit, clear-limit, file-limit, bench-side}
 use Rattle.rules.specs.Board.{Sides, Bored, Unmarked}
 use Rattle.rules.specs.Measures.{Weights, chamfer-kind}
 use Rattle.rules.specs.BenchFile.{bored-by, off-board}
@@ -53,6 +53,13 @@ pub record PictureAccepted (w h kind d1 d2 : ℕ) (picture : List ℕ) (distance
   pub lent : Lent w h (length picture) distances sites scratch
   pub bytes : Bytes picture
   pub bored : Somewhere w h (Bored w picture)
+
+-- what a slice call has whose start refuses nothing
+pub record SliceAccepted (w h kind line picture distances sites scratch : ℕ) : Type 0 where
+  pub sides : Sides w h
+  pub kind-in : kind ≤ slice-kind-limit
+  pub lent : Lent w h picture distances sites scratch
+  pub line-in : line ≤ w + h
 
 -- what a cost call has that answers 0
 pub record CostAccepted (w h kind : ℕ) (costs : List ℕ) (distances sites scratch : ℕ) : Type 0 where

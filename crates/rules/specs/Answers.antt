@@ -8,8 +8,11 @@ use Rattle.rules.specs.declared.ChangeoverAnswer.{ChangeoverAnswer}
 use Rattle.rules.specs.declared.ChangeoverAnswer.the-variants.{At, Refused as NoChangeover}
 use Rattle.rules.specs.declared.LaneAnswer.{LaneAnswer}
 use Rattle.rules.specs.declared.LaneAnswer.the-variants.{Found, Refused as NoLane}
+use Rattle.rules.specs.declared.SliceAnswer.{SliceAnswer}
+use Rattle.rules.specs.declared.SliceAnswer.the-variants.{Worked, Refused as NotBegun}
 use Rattle.rules.specs.declared.BenchAnswer.{BenchAnswer}
 use Rattle.rules.specs.declared.BenchAnswer.the-variants.{Read, Refused as NotRead}
+use Rattle.rules.specs.Limits.{mark}
 
 -- the opening: "those two whole numbers a (pitch) and b (radius), or refusal 8"
 abbrev pub opening-number : OpeningAnswer → ℕ
@@ -62,3 +65,21 @@ bench-farthest (NotRead n) = 0
 abbrev pub bench-cell : BenchAnswer → ℕ
 bench-cell (Read sites farthest cell) = cell
 bench-cell (NotRead n) = 0
+
+-- the slice of document 02, E1: the number of its start, 0 where it worked; the number that it answers, be it of the start
+-- or of a stop; the lines that it finished, and the next line. A refusal has no next line: the mark is none.
+abbrev pub slice-start : SliceAnswer → ℕ
+slice-start (Worked number finished next) = 0
+slice-start (NotBegun n) = n
+
+abbrev pub slice-number : SliceAnswer → ℕ
+slice-number (Worked number finished next) = number
+slice-number (NotBegun n) = n
+
+abbrev pub slice-finished : SliceAnswer → ℕ
+slice-finished (Worked number finished next) = finished
+slice-finished (NotBegun n) = 0
+
+abbrev pub slice-next : SliceAnswer → ℕ
+slice-next (Worked number finished next) = next
+slice-next (NotBegun n) = mark

@@ -1,23 +1,24 @@
--- Document 01's rows at their edges, as one list of values of one type, and what each says of the rules. Every figure is
--- 01's own, in digits, and never a name of `Limits`: a limit that is wrong there and in the constants alike shows here.
--- No row tested before the one that a call answers holds of it; a later one may, as 6 does of a board of side 0, which has
--- no bore. `proofs/Edges.antt` proves the claim `Met` of the list. Assumes nothing.
+-- Document 01's rows at their edges, and those of document 02's E1, as one list of values of one type, and what each says
+-- of the rules. Every figure is the documents' own, in digits, and never a name of `Limits`: a limit that is wrong there
+-- and in the constants alike shows here. No row tested before the one that a call answers holds of it; a later one may, as
+-- 6 does of a board of side 0, which has no bore. `proofs/Edges.antt` proves the claim `Met` of the list. Assumes nothing.
 use mathlib.Core.Path.{_≡_}
 use mathlib.Core.Bool.{true, false}
 use mathlib.Core.List.{List, [], _∷_, _++_}
 use Prim.Native.Nat.{ℕ}
 use lib.IntN.{pos, negsuc}
 use lib.Ieee.{Float, nan, inf, fin}
-use lib.ListN.{replicate}
+use lib.ListN.{length, replicate}
 use Rattle.rules.specs.declared.Setting.{Setting}
 use Rattle.rules.specs.Limits.{mark}
 use Rattle.rules.specs.Board.{cell}
 use Rattle.rules.specs.Refusals.{Row, answer, scratch-words, picture-rows, cost-rows, lane-rows}
-use Rattle.rules.specs.Refusals.{clear-rows, opening-rows, changeover-rows, file-rows}
+use Rattle.rules.specs.Refusals.{clear-rows, opening-rows, changeover-rows, file-rows, slice-rows}
 use Rattle.rules.specs.Calls.{OpeningCall}
+use Rattle.rules.specs.Slices.{column-rows, row-rows, line-number}
 
 pub data Edge : Type 0 where
-  -- what the rules compute, and what 01 says
+  -- what the rules compute, and what the documents say
   number : ℕ → ℕ → Edge
   -- the rows of a call, and the number that it answers
   call : List Row → ℕ → Edge
@@ -48,8 +49,8 @@ abbrev pub number-edges : List Edge
 number-edges =
     number mark 4_294_967_295 ∷ number (cell 3 2 1) 5 ∷ number (cell 3 1 0) 1 ∷ number (scratch-words 3 2) 16 ∷ []
 
--- a map of a board whose cells are all bored, of costs that are all 0, and a lane of that board from cell 0 to itself:
--- W, H, their cells and scratch words
+-- a map of a board whose cells are all bored, of costs that are all 0, a lane of that board from cell 0 to itself, and the
+-- start of a slice at line 0: W, H, their cells and scratch words
 abbrev pub plain-map : ℕ → ℕ → ℕ → ℕ → List Row
 plain-map w h n scratch = picture-rows w h 0 0 0 (replicate n 1) n n scratch
 
@@ -58,6 +59,9 @@ plain-costs w h n scratch = cost-rows w h 0 (replicate n 0) n n scratch
 
 abbrev pub plain-lane : ℕ → ℕ → ℕ → ℕ → List Row
 plain-lane w h n scratch = lane-rows w h (replicate n 1) 0 0 n n scratch n
+
+abbrev pub plain-slice : ℕ → ℕ → ℕ → ℕ → List Row
+plain-slice w h n scratch = slice-rows w h 0 0 n n n scratch
 
 -- 1: sides 0, 1, 512 and 513
 abbrev pub side-edges : (ℕ → ℕ → ℕ → ℕ → List Row) → List Edge
@@ -71,17 +75,26 @@ side-edges plain =
     ∷ call (plain 1 513 513 1541) 1
     ∷ []
 
--- a map of one bored cell: kind and weights; costs of one cell: kind
+-- a map of one bored cell: kind and weights; costs and a slice of one cell: kind
 abbrev pub of-kind : ℕ → ℕ → ℕ → List Row
 of-kind kind d1 d2 = picture-rows 1 1 kind d1 d2 (1 ∷ []) 1 1 5
 
 abbrev pub costs-of-kind : ℕ → List Row
 costs-of-kind kind = cost-rows 1 1 kind (0 ∷ []) 1 1 5
 
--- 2: kinds 3 and 4; of costs 1 and 2
+abbrev pub slice-of-kind : ℕ → List Row
+slice-of-kind kind = slice-rows 1 1 kind 0 1 1 1 5
+
+-- 2: kinds 3 and 4; of costs 1 and 2; of slices 2 and 3
 abbrev pub kind-edges : List Edge
 kind-edges =
-    call (of-kind 3 3 4) 0 ∷ call (of-kind 4 3 4) 2 ∷ call (costs-of-kind 1) 0 ∷ call (costs-of-kind 2) 2 ∷ []
+    call (of-kind 3 3 4) 0
+    ∷ call (of-kind 4 3 4) 2
+    ∷ call (costs-of-kind 1) 0
+    ∷ call (costs-of-kind 2) 2
+    ∷ call (slice-of-kind 2) 0
+    ∷ call (slice-of-kind 3) 2
+    ∷ []
 
 -- 3: d1 of 0, 1, 255 and 256; d2 around d1 and around 2·d1; no weights for another kind
 abbrev pub weight-edges : List Edge
@@ -110,6 +123,9 @@ lent-costs costs distances sites scratch = cost-rows 3 2 0 (replicate costs 0) d
 abbrev pub lent-lane : ℕ → ℕ → ℕ → ℕ → ℕ → List Row
 lent-lane path picture distances sites scratch =
     lane-rows 3 2 (replicate picture 1) 0 5 distances sites scratch path
+
+abbrev pub lent-slice : ℕ → ℕ → ℕ → ℕ → List Row
+lent-slice picture distances sites scratch = slice-rows 3 2 0 0 picture distances sites scratch
 
 -- 4: each list of the minimum length, longer buffers, each list a word short, and the picture a word too long
 abbrev pub lent-edges : (ℕ → ℕ → ℕ → ℕ → List Row) → List Edge
@@ -226,6 +242,73 @@ record-edges =
     ∷ call (file-rows (0 ∷ 0 ∷ 0 ∷ 1 ∷ [])) 11
     ∷ []
 
+-- 12: line numbers around W + H on a board of 3 by 2, and the greatest; a start looks at no byte
+abbrev pub at-line : ℕ → List Row
+at-line line = slice-rows 3 2 0 line 6 6 6 16
+
+abbrev pub start-edges : List Edge
+start-edges =
+    call (at-line 0) 0
+    ∷ call (at-line 4) 0
+    ∷ call (at-line 5) 0
+    ∷ call (at-line 6) 12
+    ∷ call (at-line 4_294_967_295) 12
+    ∷ call (slice-rows 1 1 0 0 (length {A = ℕ} (2 ∷ [])) 1 1 5) 0
+    ∷ []
+
+-- the left column of a board of 2 by 2, by the bytes in it and those beside it
+abbrev pub left-column : ℕ → ℕ → ℕ → ℕ → List Row
+left-column top bottom beside-top beside-bottom = column-rows 2 2 (top ∷ beside-top ∷ bottom ∷ beside-bottom ∷ []) 0
+
+-- 5 of a column: bytes 0, 1 and 2 in it, and 2 beside it
+abbrev pub column-edges : List Edge
+column-edges =
+    call (left-column 0 0 0 0) 0
+    ∷ call (left-column 0 1 1 0) 0
+    ∷ call (left-column 1 1 0 0) 0
+    ∷ call (left-column 2 0 0 0) 5
+    ∷ call (left-column 1 2 0 0) 5
+    ∷ call (left-column 255 0 0 0) 5
+    ∷ call (left-column 0 1 2 0) 0
+    ∷ call (left-column 1 0 1 2) 0
+    ∷ []
+
+-- the lower row of a board of 3 by 2, by its words; those of the row above can't be done
+abbrev pub lower-row : ℕ → ℕ → ℕ → List Row
+lower-row left middle right = row-rows 3 2 (2 ∷ 2 ∷ 2 ∷ left ∷ middle ∷ right ∷ []) 1
+
+-- 13: words H − 1, H, H + 1 and the one below the mark; a bad word beside marks. 6: the mark beside a word, and alone.
+abbrev pub row-edges : List Edge
+row-edges =
+    call (lower-row 1 1 1) 0
+    ∷ call (lower-row 0 1 0) 0
+    ∷ call (lower-row 2 0 0) 13
+    ∷ call (lower-row 0 2 0) 13
+    ∷ call (lower-row 0 0 2) 13
+    ∷ call (lower-row 0 3 1) 13
+    ∷ call (lower-row 1 4_294_967_294 0) 13
+    ∷ call (lower-row 1 4_294_967_295 4_294_967_295) 0
+    ∷ call (lower-row 4_294_967_295 4_294_967_295 0) 0
+    ∷ call (lower-row 4_294_967_295 4_294_967_295 4_294_967_295) 6
+    ∷ call (lower-row 4_294_967_295 2 4_294_967_295) 13
+    ∷ []
+
+-- the lines of a board of 3 by 2: three columns, the middle one with a bad byte, and two rows, the upper one all marks
+abbrev pub line-of : ℕ → ℕ
+line-of line =
+    line-number 3 2 (0 ∷ 2 ∷ 0 ∷ 1 ∷ 0 ∷ 0 ∷ [])
+    (4_294_967_295 ∷ 4_294_967_295 ∷ 4_294_967_295 ∷ 1 ∷ 4_294_967_295 ∷ 4_294_967_295 ∷ []) line
+
+-- "Lines are W columns from the left, then H rows from the top."
+abbrev pub line-edges : List Edge
+line-edges =
+    number (line-of 0) 0
+    ∷ number (line-of 1) 5
+    ∷ number (line-of 2) 0
+    ∷ number (line-of 3) 6
+    ∷ number (line-of 4) 0
+    ∷ []
+
 -- "the first row that holds": two rows or more hold, and the answer is the first in the entry's order. Of each entry
 -- every two rows are here that it tests one after the other and that can both hold (2 and 3 cannot).
 abbrev pub order-edges : List Edge
@@ -246,13 +329,18 @@ order-edges =
     ∷ call (clear-rows (setting nan nan) 0 0) 4
     ∷ call (file-rows (64 ∷ 0 ∷ 0 ∷ 0 ∷ 0 ∷ [])) 10
     ∷ call (file-rows (0 ∷ 0 ∷ 255 ∷ 255 ∷ [])) 11
+    ∷ call (slice-rows 0 1 3 0 0 0 0 2) 1
+    ∷ call (slice-rows 1 1 3 0 1 0 1 5) 2
+    ∷ call (slice-rows 1 1 0 3 1 0 1 5) 4
     ∷ []
 
 -- all of them
 abbrev pub edges : List Edge
 edges =
     number-edges
-    ++ side-edges plain-map ++ side-edges plain-costs ++ side-edges plain-lane
+    ++ side-edges plain-map ++ side-edges plain-costs ++ side-edges plain-lane ++ side-edges plain-slice
     ++ kind-edges ++ weight-edges
-    ++ lent-edges lent-map ++ lent-edges lent-costs ++ lent-edges (lent-lane 6) ++ path-edges ++ slice-edges
-    ++ content-edges ++ end-edges ++ knob-edges ++ changeover-edges ++ length-edges ++ record-edges ++ order-edges
+    ++ lent-edges lent-map ++ lent-edges lent-costs ++ lent-edges (lent-lane 6) ++ lent-edges lent-slice
+    ++ path-edges ++ slice-edges
+    ++ content-edges ++ end-edges ++ knob-edges ++ changeover-edges ++ length-edges ++ record-edges
+    ++ start-edges ++ column-edges ++ row-edges ++ line-edges ++ order-edges

@@ -13,6 +13,7 @@ pub mod Accepted
 pub mod BenchFile
 pub mod Answers
 pub mod Calls
+pub mod Slices
 pub mod Samples
 pub mod Edges
 pub mod Figures

@@ -24,6 +24,10 @@ kind-limit = 3
 abbrev pub cost-kind-limit : ℕ
 cost-kind-limit = 1
 
+-- Document 02, E1: "2 (kind above 2, also in later editions)": the greatest kind of a map in slices, for ever
+abbrev pub slice-kind-limit : ℕ
+slice-kind-limit = 2
+
 -- "We accept d1 from 1 to 255"
 abbrev pub weight-limit : ℕ
 weight-limit = 255
@@ -68,6 +72,7 @@ pub record Stated (l : LimitTable) : Type 0 where
   pub cost-is : l .cost ≡ cost-limit
   pub kind-is : l .kind ≡ kind-limit
   pub cost-kind-is : l .«cost_kind» ≡ cost-kind-limit
+  pub slice-kind-is : l .«slice_kind» ≡ slice-kind-limit
   pub weight-is : l .weight ≡ weight-limit
   pub column-is : l .column ≡ column-limit
   pub value-is : l .value ≡ value-limit

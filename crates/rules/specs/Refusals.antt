@@ -7,7 +7,7 @@ use Prim.Native.Nat.{ℕ, zero, suc, _+_, _*_, _%_, _^_}
 use lib.Dec.{leb, ltb, eqb}
 use lib.ListN.{length}
 use Rattle.rules.specs.declared.Setting.{Setting}
-use Rattle.rules.specs.Limits.{side-limit, mark, kind-limit, cost-kind-limit, cost-limit, weight-limit, column-limit, value-limit, knob-limit, clear-limit, file-limit}
+use Rattle.rules.specs.Limits.{side-limit, mark, kind-limit, cost-kind-limit, slice-kind-limit, cost-limit, weight-limit, column-limit, value-limit, knob-limit, clear-limit, file-limit}
 use Rattle.rules.specs.Measures.{chamfer-kind}
 use Rattle.rules.specs.Knob.{pitch-word, radius-word, good-word}
 use Rattle.rules.specs.BenchFile.{bored-by, off-board}
@@ -98,6 +98,14 @@ bad-changeover i u a b = leb u i || ltb column-limit u || ltb value-limit a || l
 unfoldable pub bad-length : ℕ → Bool
 bad-length bytes = not (eqb (bytes % 4) 0) || ltb file-limit bytes
 
+-- 12, of document 02, E1: "a line number above W+H"
+unfoldable pub bad-line : ℕ → ℕ → ℕ → Bool
+bad-line w h line = ltb (w + h) line
+
+-- 13, of document 02, E1: "a word neither below H nor the mark"
+unfoldable pub bad-word : ℕ → ℕ → Bool
+bad-word h word = not (ltb word h || eqb word mark)
+
 -- "Pictures test 1 to 6"
 abbrev pub picture-rows : ℕ → ℕ → ℕ → ℕ → ℕ → List ℕ → ℕ → ℕ → ℕ → List Row
 picture-rows w h kind d1 d2 picture distances sites scratch =
@@ -145,3 +153,13 @@ changeover-rows i u a b = row 9 (bad-changeover i u a b) ∷ []
 abbrev pub file-rows : List ℕ → List Row
 file-rows bytes =
     row 10 (bad-length (length bytes)) ∷ row 11 (off-board bytes) ∷ row 6 (no-bore (bored-by bytes)) ∷ []
+
+-- Document 02, E1: "At the start, changing nothing: 1, 2 (kind above 2, also in later editions), 4, and 12 for a line number
+-- above W+H." No byte is looked at, so the picture goes by its length.
+abbrev pub slice-rows : ℕ → ℕ → ℕ → ℕ → ℕ → ℕ → ℕ → ℕ → List Row
+slice-rows w h kind line picture distances sites scratch =
+    row 1 (bad-sides w h)
+    ∷ row 2 (bad-kind slice-kind-limit kind)
+    ∷ row 4 (bad-buffers w h picture distances sites scratch)
+    ∷ row 12 (bad-line w h line)
+    ∷ []

@@ -13,6 +13,8 @@ pub const COST_LIMIT: u32 = 1_000_000;
 pub const KIND_LIMIT: u32 = 3;
 
 pub const COST_KIND_LIMIT: u32 = 1;
+// Document 02, E1: "2 (kind above 2, also in later editions)". Its own number, which stays when the kinds grow.
+pub const SLICE_KIND_LIMIT: u32 = 2;
 // "d1 from 1 to 255"
 pub const WEIGHT_LIMIT: u32 = 255;
 // The changeover's "columns 0 to 511".
@@ -37,6 +39,7 @@ pub struct LimitTable {
     pub cost: u32,
     pub kind: u32,
     pub cost_kind: u32,
+    pub slice_kind: u32,
     pub weight: u32,
     pub column: u32,
     pub value: u32,
@@ -56,6 +59,7 @@ pub fn limits() -> LimitTable
         cost: COST_LIMIT,
         kind: KIND_LIMIT,
         cost_kind: COST_KIND_LIMIT,
+        slice_kind: SLICE_KIND_LIMIT,
         weight: WEIGHT_LIMIT,
         column: COLUMN_LIMIT,
         value: VALUE_LIMIT,
@@ -111,6 +115,17 @@ pub enum BenchAnswer {
         sites: u32,
         farthest: u32,
         cell: u32,
+    },
+    Refused(u32),
+}
+
+// A slice of a map: the number that stopped it, 0 for none, how many lines it finished, and the next line; or the number of
+// the refusal at its start.
+pub enum SliceAnswer {
+    Worked {
+        number: u32,
+        finished: u32,
+        next: u32,
     },
     Refused(u32),
 }

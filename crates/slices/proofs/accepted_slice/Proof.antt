@@ -1,0 +1,101 @@
+-- `slices::accepted_slice` meets its contract: the lines that the budget and the rest allow, and then zeros after the cells'
+-- words. Assumes nothing.
+use Prim.Native.Nat.{_≤_}
+use native.Mathlib.Omega.{arith}
+use lib.ListN.{length}
+use Rattle.rules.specs.Refusals.{scratch-words}
+use Rattle.rules.proofs.Board.{cells-few}
+use Rattle.slices.proofs.After.{tail-zeroed}
+use borrow.Author.Needs.{needs}
+use Rattle.slices.proofs.accepted_slice.Statement.{statement}
+use Rattle.slices.proofs.accepted_slice.Tie as tie
+
+-- the ways back: from the lines to the start, and from the zeros to the lines
+abbrev begun : tie.After-lines-done → tie.Start
+begun c = c .before .before .before .before .before .before .before .before .before .before .before .before .before
+
+abbrev worked : tie.After-slice-known6 → tie.After-lines-done
+worked c = c .before .before .before .before .before .before
+
+cast-w : tie.Need-cast-w
+cast-w c = search needs
+
+cast-h : tie.Need-cast-h
+cast-h c = search needs
+
+cast-line : tie.Need-cast-line
+cast-line c = search needs
+
+cast-reach : tie.Need-cast-reach
+cast-reach c = search needs
+
+reach-requires : tie.Need-reach-requires
+reach-requires c κs = search needs
+
+lines-done-requires : tie.Need-lines-done-requires
+lines-done-requires c κs = search needs
+
+mul-cells : tie.Need-mul-cells
+mul-cells c = omega (arith, cells-few (begun (worked c) .pre .sides))
+
+scratch-words-requires : tie.Need-scratch-words-requires
+scratch-words-requires c κs = let s = begun (worked c) .pre .sides in (s .width-to, s .height-to)
+
+mul-set-all : tie.Need-mul-set-all
+mul-set-all c = omega (arith, cells-few (begun (worked (c .before)) .pre .sides))
+
+sub-set-all : tie.Need-sub-set-all
+sub-set-all c = search needs
+
+part-set-all-start : tie.Need-part-set-all-start
+part-set-all-start c = search needs
+
+part-set-all-end : tie.Need-part-set-all-end
+part-set-all-end c =
+    let k = worked (c .before) in
+    omega (arith, c .scratch-words .ensures, begun k .pre .lent .scratch-from, k .lines-done .kept .1 .1 .1 .1 .1 .1 .1 .1 .0)
+
+set-all-requires : tie.Need-set-all-requires
+set-all-requires c κs = search needs
+
+same-length : tie.Need-same-length
+same-length c = search needs
+
+same-length-2 : tie.Need-same-length-2
+same-length-2 c = search needs
+
+same-length-3 : tie.Need-same-length-3
+same-length-3 c = search needs
+
+returns : tie.Need-returns
+returns c =
+    let z = c .before .before in
+    let n = z .before .before in
+    let k = worked (n .before) in
+    let scratch = k .lines-done .last .1 .1 .1 .1 .1 .1 .1 .1 .0 in
+    let room : n .scratch-words .result ≤ length scratch =
+    omega (arith, n .scratch-words .ensures, begun k .pre .lent .scratch-from, k .lines-done .kept .1 .1 .1 .1 .1 .1 .1 .1 .0) in
+    k .lines-done .ensures .zeroed _ _ (k .before .before .before .before .reach .ensures)
+    (tail-zeroed scratch (z .set-all .last .0) (n .scratch-words .ensures) room (z .set-all .kept .0) (z .set-all .ensures))
+
+pub accepted-slice-spec : {M : Type 1} → statement M
+accepted-slice-spec =
+    tie.close
+    (tie.spec
+    cast-w
+    cast-h
+    cast-line
+    cast-reach
+    reach-requires
+    lines-done-requires
+    mul-cells
+    scratch-words-requires
+    mul-set-all
+    sub-set-all
+    part-set-all-start
+    part-set-all-end
+    set-all-requires
+    same-length
+    same-length-2
+    same-length-3
+    returns)

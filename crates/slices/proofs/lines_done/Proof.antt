@@ -1,0 +1,142 @@
+-- `slices::lines_done` meets its contract: the columns, and where they go through, the rows. Assumes nothing.
+use mathlib.Core.Path.{_≡_, refl, subst, subst₂}
+use Prim.Native.Nat.{_-_, _<_, min}
+use native.Mathlib.Omega.{arith}
+use Rattle.rules.specs.Calls.{buffers}
+use Rattle.columns.specs.Bands.{Swept}
+use Rattle.slice_lines.specs.Lines.{FirstBad, RowsStopped}
+use Rattle.slices.specs.Work.{LinesDone}
+use Rattle.slices.proofs.After.{columns-left, rows-left}
+use borrow.Author.Needs.{needs}
+use Rattle.slices.proofs.lines_done.Statement.{statement}
+use Rattle.slices.proofs.lines_done.Tie as tie
+
+-- the ways back: from the columns to the start, from a test after them to them, and from the end to the rows
+abbrev begun : tie.After-column-lines → tie.Start
+begun c = c .before .before .before .before .before .before .before .before
+
+abbrev swept : tie.After-slice-known4 → tie.After-column-lines
+swept c = c .before .before
+
+abbrev lined : tie.After-struct-known → tie.After-row-lines
+lined c = c .before .before .before .before .before .before .before
+
+abbrev gone-on : tie.After-row-lines → tie.Else2
+gone-on c = c .before .before .before .before .before .before
+
+-- what the columns came to
+columns : (c : tie.After-column-lines) → let a = begun c .args in
+    let r = c .column-lines in
+    FirstBad (a .w) (a .h) (min (a .line) (a .w)) (min (a .end) (a .w)) (a .picture .now) (r .result)
+    × Swept (a .w) (a .h) (min (a .line) (a .w)) (r .result) (a .picture .now) (a .scratch .now) (r .last .1 .1 .1 .1 .1 .0)
+columns c =
+    let a = begun c .args in
+    let r = c .column-lines in
+    let second = c .before .before in
+    subst₂ (λ from to. FirstBad (a .w) (a .h) from to (a .picture .now) (r .result)
+    × Swept (a .w) (a .h) from (r .result) (a .picture .now) (a .scratch .now) (r .last .1 .1 .1 .1 .1 .0))
+    (second .lesser2 .ensures) (second .before .lesser .ensures) (r .ensures)
+
+lesser-requires : tie.Need-lesser-requires
+lesser-requires c κs = search needs
+
+lesser-requires-2 : tie.Need-lesser-requires-2
+lesser-requires-2 c κs = search needs
+
+column-lines-requires : tie.Need-column-lines-requires
+column-lines-requires c κs = search needs
+
+same-length : tie.Need-same-length
+same-length c = search needs
+
+returns : tie.Need-returns
+returns c =
+    let k = swept (c .before) in
+    let (F, S) = columns k in
+    let a = begun k .args in
+    let early : k .column-lines .result < min (a .end) (a .w) = omega (arith, c .if1 .taken, k .before .before .before .lesser .ensures) in
+    columns-left (begun k .pre .2) F S (omega (arith, F .from-in, early)) (λ e. absurd (omega (arith, early))) (λ _. (early, refl))
+
+same-length-2 : tie.Need-same-length-2
+same-length-2 c = search needs
+
+returns-2 : tie.Need-returns-2
+returns-2 c =
+    let k = swept (c .before .before) in
+    let a = begun k .args in
+    let (F, S) = columns k in
+    let all : k .column-lines .result ≡ a .end =
+    omega (arith, c .if2 .taken, c .before .if1 .left, k .before .before .before .lesser .ensures, F .to-in) in
+    subst (λ n. LinesDone (a .w) (a .h) (a .g .kind) (a .line) (a .end) (a .picture .now)
+    (buffers (a .distances .now) (a .sites .now) (a .scratch .now)) 0 n
+    (buffers (a .distances .now) (a .sites .now) (k .column-lines .last .1 .1 .1 .1 .1 .0))) all
+    (columns-left (begun k .pre .2) F S (omega (arith, begun k .pre .2, c .if2 .taken)) (λ _. refl) (λ l. absurd (omega arith)))
+
+rows-before-requires : tie.Need-rows-before-requires
+rows-before-requires c κs = search needs
+
+rows-before-requires-2 : tie.Need-rows-before-requires-2
+rows-before-requires-2 c κs = search needs
+
+row-lines-requires : tie.Need-row-lines-requires
+row-lines-requires c κs = search needs
+
+-- what the rows came to
+rows-told : (c : tie.After-row-lines) → let k = swept (gone-on c .before .before) in
+    let a = begun k .args in
+    let r = c .row-lines in
+    RowsStopped (a .g) (a .w) (a .h) (a .line - a .w) (a .end - a .w) (k .column-lines .last .1 .1 .1 .1 .1 .0)
+    (r .last .1 .1 .1 .1 .1 .1 .1 .0) (a .distances .now) (r .last .1 .1 .1 .1 .1 .0) (a .sites .now)
+    (r .last .1 .1 .1 .1 .1 .1 .0) (r .result .number) (r .result .row)
+rows-told c =
+    let k = swept (gone-on c .before .before) in
+    let a = begun k .args in
+    let r = c .row-lines in
+    let second = c .before .before .before .before in
+    subst₂ (λ from to. RowsStopped (a .g) (a .w) (a .h) from to (k .column-lines .last .1 .1 .1 .1 .1 .0)
+    (r .last .1 .1 .1 .1 .1 .1 .1 .0) (a .distances .now) (r .last .1 .1 .1 .1 .1 .0) (a .sites .now)
+    (r .last .1 .1 .1 .1 .1 .1 .0) (r .result .number) (r .result .row)) (second .before .rows-before .ensures)
+    (second .rows-before2 .ensures) (r .ensures)
+
+add-t13 : tie.Need-add-t13
+add-t13 c =
+    let R = rows-told (lined c) in
+    let k = swept (gone-on (lined c) .before .before) in
+    omega (arith, R .to-in, begun k .pre .3, begun k .pre .1)
+
+same-length-3 : tie.Need-same-length-3
+same-length-3 c = search needs
+
+same-length-4 : tie.Need-same-length-4
+same-length-4 c = search needs
+
+same-length-5 : tie.Need-same-length-5
+same-length-5 c = search needs
+
+returns-3 : tie.Need-returns-3
+returns-3 c =
+    let e = gone-on (lined c) in
+    let k = swept (e .before .before) in
+    let (F, S) = columns k in
+    rows-left (begun k .pre .2) F S (e .if2 .left)
+    (omega (arith, e .before .if1 .left, k .before .before .before .lesser .ensures)) (begun k .pre .3) (rows-told (lined c))
+
+pub lines-done-spec : {M : Type 1} → statement M
+lines-done-spec =
+    tie.close
+    (tie.spec
+    lesser-requires
+    lesser-requires-2
+    column-lines-requires
+    same-length
+    returns
+    same-length-2
+    returns-2
+    rows-before-requires
+    rows-before-requires-2
+    row-lines-requires
+    add-t13
+    same-length-3
+    same-length-4
+    same-length-5
+    returns-3)

@@ -1,4 +1,4 @@
--- What a call leaves in the words that its values go to, the lane's answer by its cases, and that each C function which
+-- What a call leaves in the words that its values go to, the lane's and the slice's answer by its cases, and that each C function which
 -- answers through pointers leaves one value there. Assumes nothing.
 use mathlib.Core.Path.{_≡_, refl, sym, _∙_, subst}
 use mathlib.Core.Logic.{by-cases}
@@ -8,10 +8,14 @@ use mathlib.Core.List.{List}
 use lib.IntN.{ℤ}
 use Rattle.rules.specs.declared.Setting.{Setting}
 use Rattle.rules.specs.declared.LaneAnswer.{LaneAnswer}
+use Rattle.rules.specs.declared.SliceAnswer.{SliceAnswer}
 use Rattle.rules.specs.Answers.{lane-number, lane-width, lane-cells}
+use Rattle.rules.specs.Answers.{slice-start, slice-number, slice-finished, slice-next}
 use Rattle.rules.specs.Calls.{Buffers, LaneAfter, ChangeoverCall, OpeningCall, LaneCall}
+use Rattle.rules.specs.Slices.{SliceCall}
 use Rattle.rules.proofs.Pinned.{cells-not-zero, changeover-pinned, opening-pinned, lane-pinned}
-use Rattle.olavinthu.specs.Out.{Out}
+use Rattle.rules.proofs.Slices.{slice-pinned}
+use Rattle.olavinthu.specs.Out.{Out, SliceTold}
 
 -- a word that is as it was
 pub same : {A : Type 0} (number : ℕ) (x : A) → Out number x x
@@ -32,6 +36,15 @@ pub lane-as : {w h : ℕ} {picture : List ℕ} {from to : ℕ} {before after : B
     → LaneCall w h picture from to before path (lane-number case) (lane-width case) (lane-cells case) after path′
 lane-as {w} {h} {picture} {from} {to} {before} {after} {path} {path′} e c =
     subst (λ r. LaneCall w h picture from to before path (lane-number r) (lane-width r) (lane-cells r) after path′) e c
+
+-- what is said of a slice's answer is said of the case that it is
+pub slice-as : {w h kind line budget : ℕ} {picture : List ℕ} {before after : Buffers} {r case : SliceAnswer} → r ≡ case
+    → SliceCall w h kind line budget picture before (slice-start r) (slice-number r) (slice-finished r) (slice-next r) after
+    → SliceCall w h kind line budget picture before (slice-start case) (slice-number case) (slice-finished case)
+    (slice-next case) after
+slice-as {w} {h} {kind} {line} {budget} {picture} {before} {after} e c =
+    subst (λ r. SliceCall w h kind line budget picture before (slice-start r) (slice-number r) (slice-finished r)
+    (slice-next r) after) e c
 
 -- what a call leaves in an out-word is one value: the entry's call has one where the number is 0, and else it is as it was
 out-pinned : {A : Type 0} {n n′ : ℕ} {before after after′ : A} → n ≡ n′ → (n ≡ 0 → after ≡ after′)
@@ -62,3 +75,17 @@ pub lane-out-pinned : {w h : ℕ} {picture : List ℕ} {from to : ℕ} {before a
 lane-out-pinned (c, o, p) (c′, o′, p′) =
     let (same, left, path, both) = lane-pinned c c′ in
     (same, left, path, out-pinned same (λ z. both z .0) o o′, out-pinned same (λ z. both z .1) p p′)
+
+-- the slice's answers one number and leaves the buffers, the lines finished and the next line in one way
+pub slice-out-pinned : {w h kind line budget : ℕ} {picture : List ℕ} {before after after′ : Buffers}
+    {finished next n n′ finished₁ next₁ finished₂ next₂ : ℕ}
+    → SliceTold w h kind line budget picture before finished next n finished₁ next₁ after
+    → SliceTold w h kind line budget picture before finished next n′ finished₂ next₂ after′
+    → (n ≡ n′) × (after ≡ after′) × (finished₁ ≡ finished₂) × (next₁ ≡ next₂)
+slice-out-pinned t t′ =
+    let (same, number, left, both) = slice-pinned (t .call) (t′ .call) in (
+      number,
+      left,
+      out-pinned same (λ z. both z .0) (t .finished-out) (t′ .finished-out),
+      out-pinned same (λ z. both z .1) (t .next-out) (t′ .next-out),
+    )

@@ -1,6 +1,6 @@
 // The C functions of the static library. Each passes on to the entry that it wraps and has the same promise, by the same
 // call of the rules; where the entry answers an enum, the C function answers its number and writes its values, and a
-// refusal writes nothing. `include/olavinthu.h` declares them.
+// refusal writes nothing (a slice's stop is none: it writes its values). `include/olavinthu.h` declares them.
 use changeover::changeover;
 use costs::cost_map;
 use knob::clear_map;
@@ -11,8 +11,10 @@ use rules::ChangeoverAnswer;
 use rules::LaneAnswer;
 use rules::OpeningAnswer;
 use rules::Setting;
+use rules::SliceAnswer;
+use slices::slice;
 ghost use Rattle.rules.specs.Calls.{buffers, PictureCall, CostCall, LaneCall, ChangeoverCall, OpeningCall, ClearCall};
-ghost use Rattle.olavinthu.specs.Out.{Out};
+ghost use Rattle.olavinthu.specs.Out.{Out, SliceTold};
 
 // The map of a picture.
 #[no_mangle]
@@ -124,4 +126,39 @@ pub extern "C" fn olv_clear(setting: Setting, squares: &[u32], clear: &mut [u8])
     ensures { λ r. ⌜ ClearCall setting (now (squares .entry)) (now (clear .entry)) r (now (clear .exit)) ⌝ }
 {
     clear_map(setting, squares, clear)
+}
+
+// A slice of a map: the number that refused or stopped it, 0 for none. How many lines it finished and the next line are
+// written unless the start refuses.
+#[no_mangle]
+pub extern "C" fn olv_slice(
+    w: u32,
+    h: u32,
+    kind: u32,
+    line: u32,
+    budget: u32,
+    picture: &[u8],
+    distances: &mut [u32],
+    sites: &mut [u32],
+    scratch: &mut [u32],
+    finished: &mut u32,
+    next: &mut u32,
+) -> u32
+    ensures { λ r. ⌜ SliceTold w h kind line budget (now (picture .entry))
+        (buffers (now (distances .entry)) (now (sites .entry)) (now (scratch .entry)))
+        (now (finished .entry)) (now (next .entry)) r (now (finished .exit)) (now (next .exit))
+        (buffers (now (distances .exit)) (now (sites .exit)) (now (scratch .exit))) ⌝ }
+{
+    match slice(w, h, kind, line, budget, picture, distances, sites, scratch) {
+        SliceAnswer::Refused(refused) => refused,
+        SliceAnswer::Worked {
+            number,
+            finished: lines,
+            next: after,
+        } => {
+            *finished = lines;
+            *next = after;
+            number
+        }
+    }
 }

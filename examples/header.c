@@ -1,7 +1,7 @@
 /*
  * Holds every name of olavinthu.h but the edition against what the archive does: a limit is accepted and one past it
- * refused, a kind gives its own distances, a refusal answers a call that breaks its rule alone, the mark stands where it
- * should, and no call takes more stack than is said.
+ * refused, a kind gives its own distances, a refusal or a stop answers a call that breaks its rule alone, the mark stands
+ * where it should, and no call takes more stack than is said.
  *
  * After `rt staticlib olavinthu`, from the repository's root:
  *
@@ -52,11 +52,18 @@ static void expect(const char *asked, uint32_t found, uint32_t expected)
 /* Prints a name with its number. */
 #define SHOW(name) printf("%s %" PRIu32 "\n", #name, (uint32_t)(name))
 
-/* The three calls on a board, with a scratch of this many words and all other lists just as long as they must be. */
+/* The four calls on a board, with a scratch of this many words and all other lists just as long as they must be. */
 static uint32_t map_in(size_t words, uint32_t w, uint32_t h, uint32_t kind, uint32_t d1, uint32_t d2)
 {
     const size_t cells = (size_t)w * h;
     return olv_map(w, h, kind, d1, d2, picture, cells, distances, cells, sites, cells, scratch, words);
+}
+
+static uint32_t slice_in(size_t words, uint32_t w, uint32_t h, uint32_t kind, uint32_t line, uint32_t budget)
+{
+    const size_t cells = (size_t)w * h;
+    return olv_slice(w, h, kind, line, budget, picture, cells, distances, cells, sites, cells, scratch, words, &first,
+                     &second);
 }
 
 static uint32_t costs_in(size_t words, uint32_t w, uint32_t h, uint32_t kind)
@@ -74,6 +81,7 @@ static uint32_t lane_in(size_t words, uint32_t w, uint32_t h, uint32_t from, uin
 
 /* The same with the scratch that the header asks for. */
 #define MAP(w, h, kind, d1, d2) map_in(OLV_SCRATCH_COUNT(w, h), w, h, kind, d1, d2)
+#define SLICE(w, h, kind, line, budget) slice_in(OLV_SCRATCH_COUNT(w, h), w, h, kind, line, budget)
 #define COSTS(w, h, kind) costs_in(OLV_SCRATCH_COUNT(w, h), w, h, kind)
 #define LANE(w, h, from, to) lane_in(OLV_SCRATCH_COUNT(w, h), w, h, from, to)
 
@@ -104,10 +112,49 @@ static void kinds(void)
     expect("costs by OLV_MANHATTAN", COSTS(4, 3, OLV_MANHATTAN), OLV_ACCEPTED);
     expect("the cost word of OLV_MANHATTAN", distances[11], 5);
     expect("costs by a kind past OLV_MANHATTAN", COSTS(4, 3, OLV_MANHATTAN + 1), OLV_REFUSED_KIND);
+    expect("slices by OLV_EUCLID", SLICE(4, 3, OLV_EUCLID, 0, 7), OLV_ACCEPTED);
+    expect("the sliced word of OLV_EUCLID", distances[11], 13);
+    expect("slices by OLV_MANHATTAN", SLICE(4, 3, OLV_MANHATTAN, 0, 7), OLV_ACCEPTED);
+    expect("the sliced word of OLV_MANHATTAN", distances[11], 5);
+    expect("slices by OLV_CHESSBOARD", SLICE(4, 3, OLV_CHESSBOARD, 0, 7), OLV_ACCEPTED);
+    expect("the sliced word of OLV_CHESSBOARD", distances[11], 3);
+    expect("slices by a kind past OLV_CHESSBOARD", SLICE(4, 3, OLV_CHESSBOARD + 1, 0, 7), OLV_REFUSED_KIND);
     SHOW(OLV_EUCLID);
     SHOW(OLV_MANHATTAN);
     SHOW(OLV_CHESSBOARD);
     SHOW(OLV_CHAMFER);
+}
+
+/* A stop: its number, with the out-words written. */
+static void stop(const char *asked, uint32_t answer, uint32_t expected, uint32_t finished, uint32_t next)
+{
+    expect(asked, answer, expected);
+    expect("the lines finished before a stop", first, finished);
+    expect("the line of a stop", second, next);
+}
+
+/* The refusal of a line, which keeps the out-words, and each stop of a slice, at the second line that it may do. */
+static void slices(void)
+{
+    one_bore();
+    first = second = 77;
+    expect("a line past the last", SLICE(4, 3, OLV_EUCLID, 8, 1), OLV_REFUSED_LINE);
+    expect("the lines finished after a refusal", first, 77);
+    expect("the next line after a refusal", second, 77);
+    expect("the line after the last", SLICE(4, 3, OLV_EUCLID, 7, 1), OLV_ACCEPTED);
+
+    picture[1] = 2;
+    stop("a byte 2 in column 1", SLICE(4, 3, OLV_EUCLID, 0, 7), OLV_REFUSED_CONTENT, 1, 1);
+    one_bore();
+    expect("the columns", SLICE(4, 3, OLV_EUCLID, 0, 4), OLV_ACCEPTED);
+    scratch[4] = OLV_MARK;
+    stop("marks in row 1", SLICE(4, 3, OLV_EUCLID, 4, 3), OLV_REFUSED_EMPTY, 1, 5);
+    scratch[4] = 3;
+    stop("a word of 3 in row 1", SLICE(4, 3, OLV_EUCLID, 4, 3), OLV_REFUSED_WORD, 1, 5);
+    scratch[4] = OLV_MARK - 1;
+    stop("a word just below the mark in row 1", SLICE(4, 3, OLV_EUCLID, 4, 3), OLV_REFUSED_WORD, 1, 5);
+    scratch[4] = 2;
+    expect("a word of 2 in row 1", SLICE(4, 3, OLV_EUCLID, 4, 3), OLV_ACCEPTED);
 }
 
 /* The refusals that no limit below answers, each to a call with that one thing wrong; and what is accepted. */
@@ -126,6 +173,7 @@ static void answers(void)
     expect("every cost the mark", COSTS(4, 3, OLV_EUCLID), OLV_REFUSED_EMPTY);
     expect("clear lists of unequal length", olv_clear(good, distances, 2, clear, 1), OLV_REFUSED_LENGTH);
     expect("columns that do not rise", olv_changeover(1, 1, 0, 0, &place), OLV_REFUSED_CHANGEOVER);
+    slices();
     SHOW(OLV_ACCEPTED);
     SHOW(OLV_REFUSED_SIDE);
     SHOW(OLV_REFUSED_KIND);
@@ -136,13 +184,16 @@ static void answers(void)
     SHOW(OLV_REFUSED_OFF_BOARD);
     SHOW(OLV_REFUSED_SETTING);
     SHOW(OLV_REFUSED_CHANGEOVER);
+    SHOW(OLV_REFUSED_LINE);
+    SHOW(OLV_REFUSED_WORD);
 }
 
-/* A board of these sides in each of the three calls. */
+/* A board of these sides in each of the four calls. */
 static void side(const char *asked, uint32_t w, uint32_t h, uint32_t expected)
 {
     expect(asked, MAP(w, h, OLV_EUCLID, 0, 0), expected);
     expect(asked, COSTS(w, h, OLV_EUCLID), expected);
+    expect(asked, SLICE(w, h, OLV_EUCLID, 0, 1), expected);
     expect(asked, LANE(w, h, 0, 0), expected);
 }
 
@@ -208,7 +259,7 @@ static void knob(void)
     SHOW(OLV_CLEAR_LIMIT);
 }
 
-/* The mark: a cost that is no feature, what kind 3 names, and the path past a lane. */
+/* The mark: a cost that is no feature, what kind 3 names, a column without a bore, and the path past a lane. */
 static void mark(void)
 {
     one_bore();
@@ -220,6 +271,10 @@ static void mark(void)
     expect("OLV_CHAMFER", MAP(4, 3, OLV_CHAMFER, 3, 4), OLV_ACCEPTED);
     for (size_t cell = 0; cell < 12; cell++) {
         expect("a site of OLV_CHAMFER", sites[cell], OLV_MARK);
+    }
+    expect("a column without a bore", SLICE(4, 3, OLV_EUCLID, 1, 1), OLV_ACCEPTED);
+    for (size_t cell = 1; cell < 12; cell += 4) {
+        expect("its scratch word", scratch[cell], OLV_MARK);
     }
     expect("a lane of one cell", LANE(4, 3, 5, 5), OLV_ACCEPTED);
     for (size_t step = second; step < 12; step++) {
@@ -237,6 +292,8 @@ static void scratch_on(uint32_t w, uint32_t h)
     expect("one word fewer, map", map_in(words - 1, w, h, OLV_EUCLID, 0, 0), OLV_REFUSED_LENGTH);
     expect("OLV_SCRATCH_COUNT, costs", costs_in(words, w, h, OLV_EUCLID), OLV_ACCEPTED);
     expect("one word fewer, costs", costs_in(words - 1, w, h, OLV_EUCLID), OLV_REFUSED_LENGTH);
+    expect("OLV_SCRATCH_COUNT, slice", slice_in(words, w, h, OLV_EUCLID, 0, 1), OLV_ACCEPTED);
+    expect("one word fewer, slice", slice_in(words - 1, w, h, OLV_EUCLID, 0, 1), OLV_REFUSED_LENGTH);
     expect("OLV_SCRATCH_COUNT, lane", lane_in(words, w, h, 0, 0), OLV_ACCEPTED);
     expect("one word fewer, lane", lane_in(words - 1, w, h, 0, 0), OLV_REFUSED_LENGTH);
 }
@@ -267,6 +324,7 @@ typedef struct call {
 
 static uint32_t largest_map(void) { return MAP(OLV_SIDE_LIMIT, OLV_SIDE_LIMIT, OLV_EUCLID, 0, 0); }
 static uint32_t largest_chamfer(void) { return MAP(OLV_SIDE_LIMIT, OLV_SIDE_LIMIT, OLV_CHAMFER, 3, 4); }
+static uint32_t largest_slice(void) { return SLICE(OLV_SIDE_LIMIT, OLV_SIDE_LIMIT, OLV_EUCLID, 0, 2 * OLV_SIDE_LIMIT); }
 static uint32_t largest_costs(void) { return COSTS(OLV_SIDE_LIMIT, OLV_SIDE_LIMIT, OLV_EUCLID); }
 static uint32_t largest_lane(void) { return LANE(OLV_SIDE_LIMIT, OLV_SIDE_LIMIT, 0, 1); }
 static uint32_t largest_opening(void) { return open_in(OLV_KNOB_LIMIT, OLV_KNOB_LIMIT); }
@@ -335,9 +393,9 @@ static void stacks(void)
 {
     static const call calls[] = {
         {"olv_map", largest_map, 0, NULL},         {"olv_map, OLV_CHAMFER", largest_chamfer, 0, NULL},
-        {"olv_cost_map", largest_costs, 0, NULL},  {"olv_lane", largest_lane, 0, NULL},
-        {"olv_open", largest_opening, 0, NULL},    {"olv_changeover", largest_changeover, 0, NULL},
-        {"olv_clear", largest_clear, 0, NULL},
+        {"olv_slice", largest_slice, 0, NULL},     {"olv_cost_map", largest_costs, 0, NULL},
+        {"olv_lane", largest_lane, 0, NULL},       {"olv_open", largest_opening, 0, NULL},
+        {"olv_clear", largest_clear, 0, NULL},     {"olv_changeover", largest_changeover, 0, NULL},
     };
 
     one_bore();

@@ -1,5 +1,6 @@
 /*
- * A small board from end to end: its map, its clear map, its widest lane, and a call that is refused.
+ * A small board from end to end: its map, the same map in slices, its clear map, its widest lane, and a call that is
+ * refused.
  *
  * After `rt staticlib olavinthu`, from the repository's root:
  *
@@ -61,6 +62,38 @@ static int show_map(void)
     return 1;
 }
 
+/* How many lines a slice may finish. */
+#define BUDGET 4
+
+/* The same map in slices, in lists of their own, which are left alone until the last line is finished. */
+static int show_slices(void)
+{
+    static uint32_t sliced_distances[CELLS];
+    static uint32_t sliced_sites[CELLS];
+    static uint32_t sliced_scratch[OLV_SCRATCH_COUNT(WIDTH, HEIGHT)];
+    uint32_t line = 0;
+
+    printf("\nthe map in slices of at most %d lines:\n", BUDGET);
+    while (line < WIDTH + HEIGHT) {
+        uint32_t finished;
+        uint32_t next;
+
+        if (olv_slice(WIDTH, HEIGHT, OLV_EUCLID, line, BUDGET, picture, CELLS, sliced_distances, COUNT(sliced_distances),
+                      sliced_sites, COUNT(sliced_sites), sliced_scratch, COUNT(sliced_scratch), &finished,
+                      &next) != OLV_ACCEPTED) {
+            return 0;
+        }
+        printf("from line %" PRIu32 ": %" PRIu32 " finished, next %" PRIu32 "\n", line, finished, next);
+        line = next;
+        /* Here the node tends the wind. */
+    }
+    if (memcmp(sliced_distances, distances, sizeof distances) != 0 || memcmp(sliced_sites, sites, sizeof sites) != 0) {
+        return 0;
+    }
+    puts("every distance and site as in one go");
+    return 1;
+}
+
 /* The clear map, of a pitch of 8 mm: 10 mm are clear around the corners, at 11.3 mm, and nowhere else. */
 static int show_clear(void)
 {
@@ -113,7 +146,7 @@ static int show_refusal(void)
 
 int main(void)
 {
-    if (show_map() && show_clear() && show_lane() && show_refusal()) {
+    if (show_map() && show_slices() && show_clear() && show_lane() && show_refusal()) {
         return 0;
     }
     fputs("board: an answer is not as it should be\n", stderr);

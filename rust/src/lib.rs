@@ -1,9 +1,9 @@
-//! Exact distance maps with nearest sites, and widest lanes, from the proved archive
-//! `libolavinthu.a`, safe to call.
+//! Exact distance maps with nearest sites, in one go or in slices, and widest lanes, from the proved
+//! archive `libolavinthu.a`, safe to call.
 //!
 //! Every function takes lists of any length and numbers of any size; the archive tests them all.
-//! What it does not accept comes back as a [`Refusal`], and then no lent word has changed. On
-//! acceptance words beyond the least lengths are untouched.
+//! What it does not accept comes back as a [`Refusal`], and then no lent word has changed. Words
+//! beyond the least lengths are untouched.
 //!
 //! ```
 //! use olavinthu::{map, Board, Buffers, Measure};
@@ -25,14 +25,19 @@
 //! ```
 
 mod limits;
+mod on_board;
 pub mod raw;
 mod refusal;
+mod slices;
 
 pub use limits::*;
 pub use refusal::Refusal;
+pub use slices::{slice, Slice, SliceKind};
+
+use on_board::on_board;
 
 /// The word that stands for "none": a cost that is no feature, a site that is not named, a path word
-/// past the lane.
+/// past the lane, a scratch word of a column without a bore.
 pub const MARK: u32 = u32::MAX;
 
 /// The sides of a board. Cell (x, y) has the number y · width + x.
@@ -97,8 +102,16 @@ pub struct Buffers<'a> {
     pub distances: &'a mut [u32],
     /// At least [`Board::cells`] words; names the nearest cell of each cell afterwards.
     pub sites: &'a mut [u32],
-    /// At least [`Board::scratch_words`] words; zero afterwards.
+    /// At least [`Board::scratch_words`] words; zero afterwards, but for a [`slice`](fn@slice), whose
+    /// columns leave words there for its rows.
     pub scratch: &'a mut [u32],
+}
+
+impl Buffers<'_> {
+    /// The same lists, lent for one call of several.
+    pub fn lend(&mut self) -> Buffers<'_> {
+        Buffers { distances: self.distances, sites: self.sites, scratch: self.scratch }
+    }
 }
 
 /// Two values in millimetres.
@@ -123,35 +136,6 @@ pub struct Lane {
     pub width: u32,
     /// How many cells it has: that many path words hold it.
     pub cells: u32,
-}
-
-/// Calls a C function on a board: its sides and what is asked besides; the picture and what is asked
-/// of it; the lists lent; the out-words. A list goes as its pointer and its count.
-macro_rules! on_board {
-    ($function:ident: $board:ident $(, $besides:expr)*; $picture:ident $(, $of_it:expr)*;
-        $buffers:ident $(, $lent:expr)* $(; $($out:expr),*)?) => {{
-        // SAFETY: each pointer stands with its own slice's length; exclusive slices never overlap,
-        // and the out-words are locals of the caller.
-        let answer = unsafe {
-            raw::$function(
-                $board.width,
-                $board.height,
-                $($besides,)*
-                $picture.as_ptr(),
-                $picture.len(),
-                $($of_it,)*
-                $buffers.distances.as_mut_ptr(),
-                $buffers.distances.len(),
-                $buffers.sites.as_mut_ptr(),
-                $buffers.sites.len(),
-                $buffers.scratch.as_mut_ptr(),
-                $buffers.scratch.len(),
-                $($lent.as_mut_ptr(), $lent.len(),)*
-                $($($out),*)?
-            )
-        };
-        Refusal::of(answer)
-    }};
 }
 
 /// Makes the map of a picture, one byte a cell, 1 bored and 0 sound.

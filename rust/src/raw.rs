@@ -2,7 +2,7 @@
 //!
 //! A list is a pointer and then its count; a null pointer with the count 0 is allowed. The lists and
 //! out-words of one call must be valid and must not overlap. Nothing else is asked: any number may
-//! be passed, and each function answers 0 or the number of its refusal.
+//! be passed, and each function answers 0, the number of its refusal, or that of a slice's stop.
 
 use crate::Setting;
 
@@ -14,6 +14,15 @@ extern "C" {
         distances: *mut u32, distances_count: usize,
         sites: *mut u32, sites_count: usize,
         scratch: *mut u32, scratch_count: usize,
+    ) -> u32;
+
+    pub fn olv_slice(
+        width: u32, height: u32, kind: u32, line: u32, budget: u32,
+        picture: *const u8, picture_count: usize,
+        distances: *mut u32, distances_count: usize,
+        sites: *mut u32, sites_count: usize,
+        scratch: *mut u32, scratch_count: usize,
+        finished: *mut u32, next: *mut u32,
     ) -> u32;
 
     pub fn olv_cost_map(

@@ -1,6 +1,6 @@
 //! The crate's numbers are those of the C header, which the gate holds against the archive.
 
-use olavinthu::{CostKind, Measure};
+use olavinthu::{CostKind, Measure, SliceKind};
 
 const HEADER: &str = include_str!("../../include/olavinthu.h");
 
@@ -33,4 +33,7 @@ fn kinds_are_those_of_the_header() {
     assert_eq!(Measure::chamfer(3, 4).kind, header("CHAMFER"));
     assert_eq!(CostKind::Euclid as u32, header("EUCLID"));
     assert_eq!(CostKind::Manhattan as u32, header("MANHATTAN"));
+    assert_eq!(SliceKind::Euclid as u32, header("EUCLID"));
+    assert_eq!(SliceKind::Manhattan as u32, header("MANHATTAN"));
+    assert_eq!(SliceKind::Chessboard as u32, header("CHESSBOARD"));
 }

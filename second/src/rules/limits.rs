@@ -1,9 +1,11 @@
-//! The limits of document 01, each in one place.
+//! The limits of documents 01 and 02, each in one place.
 
 /// The longest side of a board.
 pub const SIDE: u32 = 512;
 /// The greatest kind of a picture map.
 pub const KIND: u32 = 3;
+/// The greatest kind of a map in slices, in later editions too.
+pub const SLICE_KIND: u32 = 2;
 /// The greatest kind of a cost map.
 pub const COST_KIND: u32 = 1;
 /// The greatest weight d1.

@@ -1,6 +1,7 @@
-//! Document 01 by the plainest methods. Speed is no aim here: each cell of a map is held against
-//! every bore or cost, a setting against the paper's word for each whole number, a lane is found by
-//! joining cells from the widest down; so that a reader can hold the two side by side.
+//! Document 01 by the plainest methods, and what document 02 adds. Speed is no aim here: each cell of
+//! a map is held against every bore or cost, a setting against the paper's word for each whole number,
+//! a lane is found by joining cells from the widest down; so that a reader can hold the two side by
+//! side.
 
 mod changeover;
 mod costs;
@@ -11,6 +12,7 @@ pub mod limits;
 mod loan;
 mod maps;
 mod refusals;
+mod slices;
 
 pub use changeover::ChangeoverCall;
 pub use costs::{CostCall, CostKind};
@@ -19,3 +21,4 @@ pub use knob::{good_word, opened, ClearCall};
 pub use lane::{BestLane, LaneAsked, LaneCall};
 pub use loan::{cells, BoardCall, Lengths};
 pub use maps::{Map, MapRule, PictureCall};
+pub use slices::{SliceAnswer, SliceAsked, SliceCall, Words};

@@ -1,11 +1,12 @@
-//! What only the bare C functions show: that a refusal leaves the out-words alone, that a null
-//! pointer with the count 0 is taken, and what a kind that the wrapper's types rule out is answered.
+//! What only the bare C functions show: that a refusal leaves the out-words alone, and that a slice
+//! writes them otherwise; that a null pointer with the count 0 is taken; and what a kind that the
+//! wrapper's types rule out is answered.
 
 use crate::lent::rubbish;
 use crate::run::{Call, Run};
 use olavinthu::{raw, Buffers, Refusal, Setting};
 use second::generator::Generator;
-use second::rules::{ChangeoverCall, CostCall, LaneCall};
+use second::rules::{ChangeoverCall, CostCall, LaneCall, SliceCall};
 use std::ptr::{null, null_mut};
 
 /// Makes a call that is refused, with rubbish in its two out-words, which must stay.
@@ -63,6 +64,31 @@ pub fn silent_lane(
     })
 }
 
+/// Asks for a slice of any kind, with out-words of the caller's: how many lines it finished, and the
+/// next line.
+pub fn slice(call: &SliceCall, buffers: Buffers, [finished, next]: &mut [u32; 2]) -> u32 {
+    // SAFETY: each pointer stands with the length of its own slice, and the out-words are valid.
+    unsafe {
+        raw::olv_slice(
+            call.board.width,
+            call.board.height,
+            call.asked.kind,
+            call.asked.line,
+            call.asked.budget,
+            call.picture.as_ptr(),
+            call.picture.len(),
+            buffers.distances.as_mut_ptr(),
+            buffers.distances.len(),
+            buffers.sites.as_mut_ptr(),
+            buffers.sites.len(),
+            buffers.scratch.as_mut_ptr(),
+            buffers.scratch.len(),
+            finished,
+            next,
+        )
+    }
+}
+
 /// Asks for a cost map of any kind, such as there is none of.
 pub fn cost_map(call: &CostCall, buffers: Buffers) -> Result<(), Refusal> {
     // SAFETY: each pointer stands with the length of its own slice.
@@ -110,6 +136,13 @@ fn null_map() -> u32 {
     unsafe { raw::olv_map(1, 1, 0, 0, 0, null(), 0, none, 0, none, 0, none, 0) }
 }
 
+fn null_slice() -> u32 {
+    let none = null_mut();
+    let (mut f, mut n) = (0, 0);
+    // SAFETY: a list of no elements may be null, and the out-words are two locals.
+    unsafe { raw::olv_slice(1, 1, 0, 0, 1, null(), 0, none, 0, none, 0, none, 0, &mut f, &mut n) }
+}
+
 fn null_cost_map() -> u32 {
     let none = null_mut();
     // SAFETY: a list of no elements may be null.
@@ -134,6 +167,7 @@ fn null_lane() -> u32 {
 pub fn compare(run: &mut Run) {
     let calls = [
         NullLists("map", null_map),
+        NullLists("slice", null_slice),
         NullLists("cost map", null_cost_map),
         NullLists("clear", null_clear),
         NullLists("lane", null_lane),

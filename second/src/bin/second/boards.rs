@@ -104,13 +104,18 @@ pub fn drawn<T>(board: Board, cells: &[T], cell: impl Fn(&T) -> String) -> Strin
     format!("board {width} by {height}, {given} cells given\n{}", lines.join("\n"))
 }
 
-/// A call on a picture with its board: `#` bored, `.` sound, `?` neither.
-pub fn drawn_call<A: Debug>(call: &BoardCall<u8, A>) -> String {
+/// A board with its picture: `#` bored, `.` sound, `?` neither.
+pub fn drawn_picture(board: Board, picture: &[u8]) -> String {
     let cell = |byte: &u8| match byte {
         0 => ".",
         1 => "#",
         _ => "?",
     };
-    let board = drawn(call.board, &call.picture, |byte| cell(byte).to_string());
+    drawn(board, picture, |byte| cell(byte).to_string())
+}
+
+/// A call on a picture with its board.
+pub fn drawn_call<A: Debug>(call: &BoardCall<u8, A>) -> String {
+    let board = drawn_picture(call.board, &call.picture);
     format!("{:?}, {:?}, {board}", call.asked, call.lent)
 }

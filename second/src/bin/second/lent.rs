@@ -2,7 +2,7 @@
 
 use olavinthu::{Board, Buffers};
 use second::generator::Generator;
-use second::rules::{Lengths, Map};
+use second::rules::{Lengths, Map, Words};
 use std::fmt::Display;
 
 /// How many elements before and after a list are watched besides it.
@@ -17,6 +17,14 @@ pub struct Lent<T> {
 impl<T: Copy + PartialEq + Display> Lent<T> {
     pub fn filled(length: usize, mut rubbish: impl FnMut() -> T) -> Lent<T> {
         let now: Vec<T> = (0..length + 2 * MARGIN).map(|_| rubbish()).collect();
+        let before = now.clone();
+        Lent { now, before }
+    }
+
+    /// A list that holds these elements, with rubbish around them.
+    pub fn holding(elements: &[T], mut rubbish: impl FnMut() -> T) -> Lent<T> {
+        let [left, right] = [(); 2].map(|()| [(); MARGIN].map(|()| rubbish()));
+        let now = [&left, elements, &right].concat();
         let before = now.clone();
         Lent { now, before }
     }
@@ -97,6 +105,16 @@ impl Lists {
         }
     }
 
+    /// Lists of these lengths that hold the first of the words.
+    pub fn holding(words: &Words, lengths: Lengths, generator: &mut Generator) -> Lists {
+        let mut list = |words: &[u32]| Lent::holding(words, || rubbish(generator));
+        Lists {
+            distances: list(&words.distances[..lengths.distances]),
+            sites: list(&words.sites[..lengths.sites]),
+            scratch: list(&words.scratch[..lengths.scratch]),
+        }
+    }
+
     pub fn buffers(&mut self) -> Buffers<'_> {
         Buffers {
             distances: self.distances.list_mut(),
@@ -119,6 +137,16 @@ impl Lists {
         self.sites.holds("sites", &map.sites)?;
         let zeros = vec![0; board.scratch_words()];
         self.scratch.holds("scratch", &zeros)
+    }
+
+    /// The lists must hold the first of these words throughout, and nothing around them may have
+    /// changed.
+    pub fn hold_words(&self, words: &Words) -> Result<(), String> {
+        let throughout =
+            |lent: &Lent<u32>, name, words: &[u32]| lent.holds(name, &words[..lent.list().len()]);
+        throughout(&self.distances, "distances", &words.distances)?;
+        throughout(&self.sites, "sites", &words.sites)?;
+        throughout(&self.scratch, "scratch", &words.scratch)
     }
 
     /// Every word must be as it was.

@@ -21,6 +21,8 @@ mod lent;
 mod map_case;
 mod maps;
 mod run;
+mod slice_case;
+mod slices;
 
 use run::Run;
 
@@ -37,6 +39,7 @@ fn main() {
     };
     let mut run = Run::new(seed);
     maps::compare(&mut run);
+    slices::compare(&mut run);
     costs::compare(&mut run);
     changeovers::compare(&mut run);
     knob::compare(&mut run);

@@ -14,6 +14,11 @@ pub trait Call {
     /// archive does otherwise than the rules.
     fn compare(&self, generator: &mut Generator) -> Result<u32, String>;
 
+    /// What a number other than 0 did to the call.
+    fn outcome(&self) -> &'static str {
+        "refused"
+    }
+
     /// The whole call for a reader, with its board.
     fn drawn(&self) -> String;
 }
@@ -30,11 +35,11 @@ pub fn agreed<T: PartialEq + Debug>(
     Ok(answered.err().unwrap_or(0))
 }
 
-/// How often each number was answered to one group of calls.
+/// How often each number was answered to one group of calls, and what it did to them.
 struct Tally {
     name: &'static str,
     group: &'static str,
-    answers: BTreeMap<u32, u64>,
+    answers: BTreeMap<(u32, &'static str), u64>,
 }
 
 impl Tally {
@@ -57,7 +62,7 @@ impl Run {
     /// Makes one call and counts it.
     pub fn hold(&mut self, group: &'static str, call: &impl Call) {
         match call.compare(&mut self.generator) {
-            Ok(number) => self.count(call.name(), group, number),
+            Ok(number) => self.count(call, group, number),
             Err(fault) => {
                 println!("{}, {group}: {fault}", call.name());
                 println!("{}", call.drawn());
@@ -67,25 +72,29 @@ impl Run {
         }
     }
 
-    fn count(&mut self, name: &'static str, group: &'static str, number: u32) {
+    fn count(&mut self, call: &impl Call, group: &'static str, number: u32) {
+        let name = call.name();
         let same = |tally: &Tally| tally.name == name && tally.group == group;
         let at = self.tallies.iter().position(same).unwrap_or_else(|| {
             self.tallies.push(Tally { name, group, answers: BTreeMap::new() });
             self.tallies.len() - 1
         });
-        *self.tallies[at].answers.entry(number).or_insert(0) += 1;
+        let answer = (number, call.outcome());
+        *self.tallies[at].answers.entry(answer).or_insert(0) += 1;
     }
 
-    /// Prints how many calls of each group were made, and how many of them were refused with what.
+    /// Prints how many calls of each group were made, and how many of them were refused with what, or
+    /// stopped.
     pub fn report(&self) {
         println!("seed {}", self.seed);
         for tally in &self.tallies {
-            let refused: String = tally
+            let numbers: String = tally
                 .answers
-                .range(1..)
-                .map(|(number, times)| format!("   refused {number}: {times}"))
+                .iter()
+                .filter(|((number, _), _)| *number != 0)
+                .map(|((number, outcome), times)| format!("   {outcome} {number}: {times}"))
                 .collect();
-            println!("{:<12}{:<40}{:>8}{refused}", tally.name, tally.group, tally.calls());
+            println!("{:<12}{:<40}{:>8}{numbers}", tally.name, tally.group, tally.calls());
         }
         let calls: u64 = self.tallies.iter().map(Tally::calls).sum();
         println!("{calls} calls, no difference");

@@ -24,10 +24,13 @@ pub fn compare(run: &mut Run) {
 /// How the budget of the next call is chosen.
 type Budgets = fn(Board, &mut Generator) -> u32;
 
+/// Numbers past every line. Of the first two the lower 16 and the lower 31 bits are 0.
+const FAR: [u32; 3] = [1 << 16, 1 << 31, u32::MAX];
+
 const SINGLE: Budgets = |_, _| 1;
 const SIXTY_FOUR: Budgets = |_, _| 64;
 const ALL: Budgets = |board, _| board.width + board.height;
-const MORE: Budgets = |_, _| u32::MAX;
+const MORE: Budgets = |_, generator| generator.pick(&FAR);
 const FEW: Budgets = |_, generator| generator.pick(&[0, 1, 2, 3]);
 const ANY: Budgets = |board, generator| generator.below(board.width + board.height);
 
@@ -180,10 +183,11 @@ fn single_calls(run: &mut Run) {
         let lines = board.width + board.height;
         let lent = roomy(board, generator);
         let any = generator.below(lines + 2);
+        let far = generator.pick(&FAR);
         let asked = SliceAsked {
             kind: generator.below(SLICE_KIND + 1),
             line: generator.below(lines + 2),
-            budget: generator.pick(&[0, 1, 2, any, any, u32::MAX]),
+            budget: generator.pick(&[0, 1, 2, any, any, far]),
             before: any_words(board, lent, generator),
         };
         let call = SliceCall { board, picture: any_picture(board, generator), lent, asked };
@@ -220,10 +224,12 @@ fn mark_row(call: &mut SliceCall, ahead: u32) {
 fn damages() -> Vec<Damage<u8, SliceAsked>> {
     let own: &[Damage<u8, SliceAsked>] = &[
         |_, call| call.asked.kind = 3,
+        |_, call| call.asked.kind = 1 << 16,
         |_, call| call.asked.kind = u32::MAX,
         |_, call| {
             call.asked.line = call.board.width.saturating_add(call.board.height).saturating_add(1)
         },
+        |_, call| call.asked.line = 1 << 16,
         |_, call| call.asked.line = u32::MAX,
         |_, call| call.asked.budget = 0,
         |_, call| spoil(call, 0, 2, call.board.height),

@@ -1,4 +1,4 @@
-//! How two programs are timed against each other.
+//! How programs are timed against each other.
 
 use std::hint::black_box;
 use std::time::{Duration, Instant};
@@ -49,18 +49,30 @@ pub fn times<C: Contest>(contest: &mut C, inputs: &[C::Input]) -> Result<Times, 
             return Err(at);
         }
     }
-    let mut best = Times::NONE;
+    let [ours, plain] = best_turns(|program| match program {
+        0 => turn(inputs, |input| contest.ours(input)),
+        _ => turn(inputs, |input| contest.plain(input)),
+    });
+    Ok(Times { ours, plain })
+}
+
+/// The best turn of each of some programs, which take turns. A program is asked for by its number.
+pub fn best_turns<const PROGRAMS: usize>(
+    mut turn_of: impl FnMut(usize) -> Duration,
+) -> [Duration; PROGRAMS] {
+    let mut best = [Duration::MAX; PROGRAMS];
     let (start, mut turns) = (Instant::now(), 0);
     while turns < TURNS || start.elapsed() < LEAST {
         turns += 1;
-        let ours = turn(inputs, |input| contest.ours(input));
-        let plain = turn(inputs, |input| contest.plain(input));
-        best = best.or_better(Times { ours, plain });
+        for (program, best) in best.iter_mut().enumerate() {
+            *best = turn_of(program).min(*best);
+        }
     }
-    Ok(best)
+    best
 }
 
-fn turn<I>(inputs: &[I], mut answer: impl FnMut(&I)) -> Duration {
+/// How long it takes to answer all the inputs.
+pub fn turn<I>(inputs: &[I], mut answer: impl FnMut(&I)) -> Duration {
     let start = Instant::now();
     for input in inputs {
         answer(black_box(input));

@@ -1,9 +1,10 @@
-//! Times every entry of the archive against a plain program. A report, not a test; but programs that
-//! do not give the same answer are not timed, and end it with the exit status 1.
+//! Times every entry of the archive against a plain program, and maps in slices against maps in one
+//! go. A report, not a test; but programs that do not give the same answer are not timed, and end it
+//! with the exit status 1.
 //!
 //! usage: bench
 //!
-//! Prints the two tables of docs/BENCH.md.
+//! Prints the tables of docs/BENCH.md.
 
 #![forbid(unsafe_code)]
 
@@ -12,6 +13,7 @@ mod contest;
 mod off_board;
 mod on_boards;
 mod plain;
+mod slices;
 mod table;
 
 use boards::{Drawing, TURN};
@@ -134,14 +136,18 @@ fn print_cells(on_boards: &[Times]) {
     }
 }
 
+/// Prints all tables, or says where two programs differ.
+fn report() -> Result<(), String> {
+    let times = best_times()?;
+    let (on_boards, off_board) = times.split_at(times.len() - OFF_BOARD.len());
+    print_calls(on_boards, off_board);
+    print_cells(on_boards);
+    slices::report(PASSES)
+}
+
 fn main() -> ExitCode {
-    match best_times() {
-        Ok(times) => {
-            let (on_boards, off_board) = times.split_at(times.len() - OFF_BOARD.len());
-            print_calls(on_boards, off_board);
-            print_cells(on_boards);
-            ExitCode::SUCCESS
-        }
+    match report() {
+        Ok(()) => ExitCode::SUCCESS,
         Err(difference) => {
             eprintln!("{difference}");
             ExitCode::FAILURE

@@ -5,15 +5,15 @@ use crate::plain::{self, PlainLane, PlainMap};
 use olavinthu::{Board, Buffers, CostKind, Lane, Measure, Refusal, Setting};
 
 /// The lists that the archive is lent for a map.
-struct Lent {
-    board: Board,
-    distances: Vec<u32>,
-    sites: Vec<u32>,
+pub struct Lent {
+    pub board: Board,
+    pub distances: Vec<u32>,
+    pub sites: Vec<u32>,
     scratch: Vec<u32>,
 }
 
 impl Lent {
-    fn new(board: Board) -> Lent {
+    pub fn new(board: Board) -> Lent {
         Lent {
             board,
             distances: vec![0; board.cells()],
@@ -22,7 +22,7 @@ impl Lent {
         }
     }
 
-    fn buffers(&mut self) -> Buffers<'_> {
+    pub fn buffers(&mut self) -> Buffers<'_> {
         Buffers {
             distances: &mut self.distances,
             sites: &mut self.sites,

@@ -2,6 +2,7 @@
 
 use crate::boards::{Drawing, TURN};
 use crate::contest::Times;
+use std::time::Duration;
 
 /// Prints a row.
 pub fn row(cells: impl IntoIterator<Item = String>) {
@@ -32,6 +33,12 @@ fn micros(seconds: f64) -> String {
         _ => 4,
     };
     format!("{micros:.digits$}")
+}
+
+/// The ratios of all times to the first of them.
+pub fn to_the_first<const N: usize>(times: &[Duration; N]) -> String {
+    let ratio = |time: &Duration| format!("{:.2}", time.as_secs_f64() / times[0].as_secs_f64());
+    times[1..].iter().map(ratio).collect::<Vec<_>>().join(", ")
 }
 
 /// What one cell takes the archive, in nanoseconds.

@@ -10,6 +10,7 @@
 
 mod boards;
 mod contest;
+mod longest_slice;
 mod off_board;
 mod on_boards;
 mod plain;
@@ -142,7 +143,9 @@ fn report() -> Result<(), String> {
     let (on_boards, off_board) = times.split_at(times.len() - OFF_BOARD.len());
     print_calls(on_boards, off_board);
     print_cells(on_boards);
-    slices::report(PASSES)
+    slices::report(PASSES)?;
+    longest_slice::report();
+    Ok(())
 }
 
 fn main() -> ExitCode {

@@ -13,7 +13,7 @@ use std::time::Duration;
 const SIDES: [u32; 4] = [64, 256, 508, SIDE];
 
 /// The kinds that there are slices of: a name, and how either way asks for it.
-const KINDS: [(&str, SliceKind, Measure); 3] = [
+pub const KINDS: [(&str, SliceKind, Measure); 3] = [
     ("0 Euclid", SliceKind::Euclid, Measure::EUCLID),
     ("1 Manhattan", SliceKind::Manhattan, Measure::MANHATTAN),
     ("2 chessboard", SliceKind::Chessboard, Measure::CHESSBOARD),

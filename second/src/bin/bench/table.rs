@@ -24,7 +24,7 @@ pub fn compared(times: Times, calls: usize) -> String {
 }
 
 /// A time in microseconds, with three digits or so.
-fn micros(seconds: f64) -> String {
+pub fn micros(seconds: f64) -> String {
     let micros = seconds * 1e6;
     let digits = match micros {
         100.0.. => 0,

@@ -89,6 +89,13 @@ module _ {w h y at : ℕ} (list part : List ℕ) (at-is : at ≡ y * w) (in-colu
   pub put-beyond : Beyond (w * h) list written
   put-beyond = beyond-more {n = at + w} (row-ends w at-is in-column) past-beyond
 
+-- a row that is lent from a list has a word for each column
+pub row-part : {w h y at : ℕ} (list : List ℕ) → at ≡ y * w → y < h → w * h ≤ length list
+    → length (midOf at (at + w - at) list) ≡ w
+row-part {w} {at = at} list at-is in-column room =
+    let inside = row-ends w at-is in-column in
+    part-length {a = at} {e = at + w} list (omega arith) (omega arith) ∙ omega arith
+
 -- no row is written yet
 pub written-none : {w h from : ℕ} (list : List ℕ) → RowsWritten w h from from list list
 written-none list = record { others = λ x k l m n. refl; beyond = record { as-long = refl; untouched = refl } }

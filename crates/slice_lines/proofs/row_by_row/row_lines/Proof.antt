@@ -1,8 +1,7 @@
 -- `slice_lines::row_by_row::row_lines` meets its contract. The loop's invariant: the row lines before y are done, and `at` is
 -- the number of row y's first cell. The measure is the number of rows left. Assumes nothing.
 use mathlib.Core.Path.{_≡_, refl, sym, _∙_, subst}
-use mathlib.Core.List.{List}
-use Prim.Native.Nat.{ℕ, _+_, _-_, _*_, _≤_}
+use Prim.Native.Nat.{_+_, _-_, _*_, _≤_}
 use native.Mathlib.Nat.{mul-le-mul-right}
 use native.Mathlib.Omega.{arith}
 use lib.ListN.{length, take, drop}
@@ -10,9 +9,8 @@ use lib.Seq.{length-take-le, length-front}
 use borrow.Rule.Slice.PartMut.{putMid}
 use Rattle.rules.specs.Limits.{side-limit}
 use Rattle.rules.proofs.Board.{cells-few, row-ends}
-use Rattle.rules.proofs.Parts.{part-length}
 use Rattle.slice_lines.specs.Lines.{RowPlace, RowOnce, RowsDone}
-use Rattle.slice_lines.proofs.Rows.{rows-none, once-number, rows-stay, rows-more}
+use Rattle.slice_lines.proofs.Rows.{row-part, rows-none, once-number, rows-stay, rows-more}
 use Rattle.slice_lines.proofs.row_by_row.row_lines.Statement.{statement}
 use Rattle.slice_lines.proofs.row_by_row.row_lines.Tie as tie
 
@@ -61,28 +59,19 @@ lent : (c : tie.In-loop Inv-loop μ-loop) → let w = at-start c .args .w in len
 lent c = length-take-le _ _ (omega (arith, c .before .loop .inv .4, at-start c .pre .1 .width-to))
 
 -- and so have the rows of distances and sites
-lent-row : (c : tie.In-loop Inv-loop μ-loop) (l l₀ : List ℕ) → let w = at-start c .args .w in
-    let n = w * at-start c .args .h in
-    let at = c .before .loop .at in
-    n ≤ length l₀ → length l ≡ length l₀ → length (take (at + w - at) (drop at l)) ≡ w
-lent-row c l l₀ room long =
-    let at = c .before .loop .at in
-    let w = at-start c .args .w in
-    part-length {a = at} {e = at + w} l (omega arith) (omega (arith, inside c)) ∙ omega arith
-
 lent-distances : (c : tie.In-loop Inv-loop μ-loop) → let w = at-start c .args .w in
     let at = c .before .loop .at in
     length (take (at + w - at) (drop at (c .before .loop .distances))) ≡ w
 lent-distances c =
-    lent-row c (c .before .loop .distances) (at-start c .args .distances .now) (at-start c .pre .4)
-    (c .before .loop .inv .0 .distances-written .beyond .as-long)
+    row-part (c .before .loop .distances) (place c .at-is) (place c .row-in)
+    (omega (arith, at-start c .pre .4, c .before .loop .inv .0 .distances-written .beyond .as-long))
 
 lent-sites : (c : tie.In-loop Inv-loop μ-loop) → let w = at-start c .args .w in
     let at = c .before .loop .at in
     length (take (at + w - at) (drop at (c .before .loop .sites))) ≡ w
 lent-sites c =
-    lent-row c (c .before .loop .sites) (at-start c .args .sites .now) (at-start c .pre .5)
-    (c .before .loop .inv .0 .sites-written .beyond .as-long)
+    row-part (c .before .loop .sites) (place c .at-is) (place c .row-in)
+    (omega (arith, at-start c .pre .5, c .before .loop .inv .0 .sites-written .beyond .as-long))
 
 mul-tail : tie.Need-mul-tail Inv-loop μ-loop
 mul-tail c = omega (arith, cells-few (c .before .before .before .pre .1))

@@ -1,15 +1,14 @@
 -- Row after row. A row line writes its own row of distances and sites and uses the words after the cells' words; so the rows
 -- before it stay, the rows after it are untouched, and the next row finds its words as they were. Assumes nothing.
 use mathlib.Core.Path.{_≡_, refl, sym, _∙_, ap, subst, subst₂}
-use mathlib.Core.Logic.{inl, inr, ⊎-elim, by-cases}
+use mathlib.Core.Logic.{_≢_, inl, inr, ⊎-elim, by-cases}
 use mathlib.Core.List.{List}
 use Prim.Native.Nat.{ℕ, _+_, _-_, _*_, _≤_, _<_}
-use native.Mathlib.Nat.{mul-le-mul-right, eq-or-lt-of-le}
+use native.Mathlib.Nat.{eq-or-lt-of-le}
 use native.Mathlib.Decide.{ℕ-discrete}
 use native.Mathlib.Omega.{arith}
-use lib.ListN.{length, getD, drop}
-use lib.Seq.{drop-drop}
-use borrow.Rule.Slice.PartMut.{putMid, drop-put, same-len-mid}
+use lib.ListN.{length, getD}
+use borrow.Rule.Slice.PartMut.{putMid}
 use Rattle.rules.specs.Limits.{mark}
 use Rattle.rules.specs.Board.{Sides, cell, away}
 use Rattle.rules.specs.Measures.{HasParts}
@@ -17,7 +16,8 @@ use Rattle.rules.specs.Columns.{RowWord}
 use Rattle.rules.specs.Calls.{Beyond}
 use Rattle.rules.proofs.Board.{row-ends}
 use Rattle.rules.proofs.Columns.{row-word-same}
-use Rattle.rules.proofs.Parts.{put-before, put-inside, part-length, beyond-both}
+use Rattle.rules.proofs.Parts.{beyond-more, beyond-both}
+use Rattle.rules.proofs.RowParts.{put-here, put-elsewhere, put-past}
 use Rattle.gauge.specs.declared.Gauge.{Gauge}
 use Rattle.gauge.specs.Line.{measured}
 use Rattle.rows.specs.Row.{Believed, RowMade}
@@ -32,20 +32,6 @@ rows-none scratch d s =
       scratch-beyond = record { as-long = refl; untouched = refl };
       distances-beyond = record { as-long = refl; untouched = refl };
       sites-beyond = record { as-long = refl; untouched = refl };
-    }
-
--- what is untouched beyond the row's end
-row-beyond : {at end : ℕ} (before now part : List ℕ) → at ≤ end → end ≤ length now → length part ≡ end - at
-    → Beyond at before now → Beyond end before (putMid at (end - at) now part)
-row-beyond {at} {end} before now part h l e B =
-    let more : drop (end - at) (drop at now) ≡ drop (end - at) (drop at before) = ap (drop (end - at)) (B .untouched) in
-    let whole : at + (end - at) ≡ end = omega arith in
-    record {
-      as-long = same-len-mid at (end - at) now part (e ∙ sym (part-length {a = at} now h l)) ∙ B .as-long;
-      untouched =
-          drop-put at end now part h l e
-          ∙ subst (λ n. drop n now ≡ drop n before) whole
-          (sym (drop-drop (end - at) at now) ∙ more ∙ drop-drop (end - at) at before);
     }
 
 module _ {g : Gauge} {w h : ℕ} {before d s : List ℕ} (sides : Sides w h) where
@@ -73,11 +59,11 @@ module _ {g : Gauge} {w h : ℕ} {before d s : List ℕ} (sides : Sides w h) whe
   module _ {y : ℕ} {after after′ d′ s′ : List ℕ} (drow srow : List ℕ) (l : y < h) (d-long : w * h ≤ length d)
       (s-long : w * h ≤ length s) (drow-long : length drow ≡ w) (srow-long : length srow ≡ w)
       (R : RowsMade g w h y before after d d′ s s′) (M : RowMade g y (y * w) (w * h) w after after′ drow srow) where
-    d-now : y * w + w ≤ length d′
-    d-now = omega (arith, row-ends w refl l, R .distances-beyond .as-long)
+    d-room : w * h ≤ length d′
+    d-room = omega (arith, R .distances-beyond .as-long)
 
-    s-now : y * w + w ≤ length s′
-    s-now = omega (arith, row-ends w refl l, R .sites-beyond .as-long)
+    s-room : w * h ≤ length s′
+    s-room = omega (arith, R .sites-beyond .as-long)
 
     -- this row
     here : (x : ℕ) → x < w → RowWord w (measured g .combine) (word-of w before y)
@@ -87,8 +73,7 @@ module _ {g : Gauge} {w h : ℕ} {before d s : List ℕ} (sides : Sides w h) whe
     here x in-row =
         subst₂ (λ a b. RowWord w (measured g .combine) (word-of w before y)
         (λ i. measured g .lift (away y (word-of w before y i))) x a b)
-        (sym (put-inside {a = y * w} (y * w + w - y * w) d′ drow (omega (arith, d-now)) (omega (arith, drow-long))))
-        (sym (put-inside {a = y * w} (y * w + w - y * w) s′ srow (omega (arith, s-now)) (omega (arith, srow-long))))
+        (sym (put-here d′ drow refl l d-room drow-long in-row)) (sym (put-here s′ srow refl l s-room srow-long in-row))
         (row-word-same same (λ i b n. ap (λ word. measured g .lift (away y word)) (same i b)) (M .row x in-row))
       where
         same : (i : ℕ) → i < w → getD after (y * w + i) 0 ≡ word-of w before y i
@@ -100,11 +85,11 @@ module _ {g : Gauge} {w h : ℕ} {before d s : List ℕ} (sides : Sides w h) whe
         (getD (putMid (y * w) (y * w + w - y * w) d′ drow) (cell w x y′) 0)
         (getD (putMid (y * w) (y * w + w - y * w) s′ srow) (cell w x y′) 0)
     earlier x y′ in-row b =
-        let low : cell w x y′ < y * w = omega (arith, mul-le-mul-right w b) in
+        let other : y′ ≢ y = omega arith in
         subst₂ (λ a b. RowWord w (measured g .combine) (word-of w before y′)
         (λ i. measured g .lift (away y′ (word-of w before y′ i))) x a b)
-        (sym (put-before {a = y * w} (y * w + w - y * w) d′ drow (omega (arith, d-now)) low))
-        (sym (put-before {a = y * w} (y * w + w - y * w) s′ srow (omega (arith, s-now)) low)) (R .rows x y′ in-row b)
+        (sym (put-elsewhere d′ drow refl l d-room drow-long in-row other))
+        (sym (put-elsewhere s′ srow refl l s-room srow-long in-row other)) (R .rows x y′ in-row b)
 
     -- one row more
     pub rows-more : RowsMade g w h (y + 1) before after′ d (putMid (y * w) (y * w + w - y * w) d′ drow) s
@@ -124,10 +109,10 @@ module _ {g : Gauge} {w h : ℕ} {before d s : List ℕ} (sides : Sides w h) whe
           scratch-beyond = beyond-both (R .scratch-beyond) (M .used .beyond);
           distances-beyond =
               subst (λ n. Beyond n d (putMid (y * w) (y * w + w - y * w) d′ drow)) next
-              (row-beyond {end = y * w + w} d d′ drow (omega arith) d-now (omega (arith, drow-long)) (R .distances-beyond));
+              (beyond-both (beyond-more {n = y * w} (omega arith) (R .distances-beyond)) (put-past d′ drow refl l d-room drow-long));
           sites-beyond =
               subst (λ n. Beyond n s (putMid (y * w) (y * w + w - y * w) s′ srow)) next
-              (row-beyond {end = y * w + w} s s′ srow (omega arith) s-now (omega (arith, srow-long)) (R .sites-beyond));
+              (beyond-both (beyond-more {n = y * w} (omega arith) (R .sites-beyond)) (put-past s′ srow refl l s-room srow-long));
         }
       where
         next : y * w + w ≡ (y + 1) * w

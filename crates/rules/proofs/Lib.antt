@@ -2,6 +2,7 @@ pub mod Filling
 pub mod Parts
 pub mod Order
 pub mod Board
+pub mod RowParts
 pub mod TieRule
 pub mod Columns
 pub mod Changeover

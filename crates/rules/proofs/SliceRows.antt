@@ -3,13 +3,14 @@
 -- the mark, 6 where all its words are marks, and else 0. Each goes by the laws of a test over the numbers below n: it holds
 -- where one of them passes, and fails where none does. Assumes nothing.
 use mathlib.Core.Path.{_≡_, refl, sym, ap, _∙_, subst}
-use mathlib.Core.Logic.{_≢_, _⊎_, inl, inr, by-cases}
-use mathlib.Core.Bool.{Bool, true, false, not, _||_, true≢false, false≢true, or-true}
+use mathlib.Core.Logic.{_≢_, by-cases}
+use mathlib.Core.Bool.{Bool, true, false, not, _||_, true≢false, or-true}
 use mathlib.Core.List.{List, [], _∷_}
 use Prim.Native.Nat.{ℕ, zero, suc, _+_, _-_, _≤_, _<_}
 use native.Mathlib.Decide.{decLt, ℕ-discrete}
 use native.Mathlib.Omega.{arith}
-use lib.Dec.{ltb, eqb, lit<}
+use lib.Dec.{T, ltb, eqb, lit<}
+use lib.Ieee.Bits.{is-true}
 use lib.ListN.{getD}
 use borrow.Author.Tests.{ltb-false, eqb-false, not-true, not-false, le-ltb, lt-ltb, eq-eqb, ne-eqb}
 use Rattle.rules.specs.Limits.{mark, slice-kind-limit}
@@ -18,7 +19,8 @@ use Rattle.rules.specs.Measures.{HasParts}
 use Rattle.rules.specs.Accepted.{SliceAccepted}
 use Rattle.rules.specs.Refusals.{answer, some, bad-byte, bad-line, bad-word, slice-rows}
 use Rattle.rules.specs.Slices.{word-at, column-rows, row-rows, line-number}
-use Rattle.rules.proofs.Refusals.{numbers, RowByRow, row-by-row, holds-unless, or-first, or-second, or-false, or-either}
+use Rattle.rules.proofs.Knob.{some-means}
+use Rattle.rules.proofs.Refusals.{numbers, RowByRow, row-by-row, holds-unless, or-first, or-second, or-false}
 use Rattle.rules.proofs.Refusals.{sides-passes, kind-passes, buffers-passes, byte-passes, byte-good}
 
 -- where every number below n fails a test, none passes it
@@ -39,13 +41,7 @@ some-here n p k l e = holds-unless (some n p) (λ none. true≢false (sym e ∙ 
 
 -- where some does, there is one
 pub some-one : (n : ℕ) (p : ℕ → Bool) → some n p ≡ true → (k : ℕ) × (k < n) × (p k ≡ true)
-some-one zero p e = absurd (false≢true e)
-some-one (suc n) p e = go (some-one n p) (or-either (p n) (some n p) e)
-  where
-    go : (some n p ≡ true → (k : ℕ) × (k < n) × (p k ≡ true)) → (p n ≡ true) ⊎ (some n p ≡ true)
-        → (k : ℕ) × (k < suc n) × (p k ≡ true)
-    go lower (inl here) = (n, omega arith, here)
-    go lower (inr there) = let (k, l, q) = lower there in (k, omega arith, q)
+some-one n p e = let (k, l, t) = some-means n p (subst T (sym e) tt) in (k, l, is-true (p k) t)
 
 -- row 12 does not hold: the line is one of the board's, or the end of them
 pub line-passes : (w h line : ℕ) → bad-line w h line ≡ false → line ≤ w + h

@@ -29,7 +29,7 @@ use lib.ListN.{length, getD}
 use Rattle.rules.specs.declared.SliceAnswer.{SliceAnswer}
 use Rattle.rules.specs.declared.SliceAnswer.the-variants.{Worked, Refused as NotBegun}
 use Rattle.rules.specs.Limits.{mark, kind-limit}
-use Rattle.rules.specs.Board.{Sides, cell, away, Bored}
+use Rattle.rules.specs.Board.{cell, away, Bored}
 use Rattle.rules.specs.Measures.{distance, measure, HasParts}
 use Rattle.rules.specs.Columns.{ColumnWord, RowWord}
 use Rattle.rules.specs.Tie.{MapWord, MapSite}
@@ -369,47 +369,47 @@ module _ (w h kind : ℕ) (picture budgets : List ℕ) (before after : Buffers)
       (least-unique word (p .words x y l m), map-site-unique site (p .names x y l m .named named)))
 
   -- every byte of its picture is good
-  chain-bytes : Sides w h → Bytes picture
-  chain-bytes s k l =
+  chain-bytes : 0 < w + h → Bytes picture
+  chain-bytes some k l =
       each-cell w (λ (c : ℕ). getD picture c 0 ≤ 1)
       (λ x y i j. column-passes w h picture x
       (sym (column-line-number w h picture (after .scratch) x i) ∙ last .passed x (omega arith)) y j) k
-      (omega (arith, first (omega (arith, s)) .lent .picture-is))
+      (omega (arith, first some .lent .picture-is))
 
   -- and some cell is bored
-  chain-bored : Sides w h → Somewhere w h (Bored w picture)
-  chain-bored s =
-      let top : 0 < h = s .height-from in
+  chain-bored : 0 < w + h → Somewhere w h (Bored w picture)
+  chain-bored some =
+      let top : 0 < h = first some .sides .height-from in
       let passed = sym (row-line-number w h picture (after .scratch) 0) ∙ last .passed (w + 0) (omega arith) in
       let (x, l, unmarked) = row-passes w h (after .scratch) 0 passed .1 in
       let n = last .columns x 0 l top (omega arith) .named unmarked in
       (x, word-at w (after .scratch) x 0, l, n .row-in, n .feature)
 
-  -- so a map call in one go, lent enough, accepts the picture
-  pub chain-accepted : Sides w h → (d1 d2 distances sites scratch : ℕ)
+  -- so a map call in one go, lent enough, accepts the picture of a board that has a line
+  pub chain-accepted : 0 < w + h → (d1 d2 distances sites scratch : ℕ)
       → w * h ≤ distances → w * h ≤ sites → scratch-words w h ≤ scratch
       → answer (picture-rows w h kind d1 d2 picture distances sites scratch) ≡ 0
-  chain-accepted s d1 d2 distances sites scratch a b c =
-      let begun = first (omega (arith, s)) in
+  chain-accepted some d1 d2 distances sites scratch a b c =
+      let begun = first some in
       let p = slice-parts (begun .kind-in) in
       let accepted : PictureAccepted w h kind d1 d2 picture distances sites scratch =
       record {
-        sides = s;
+        sides = begun .sides;
         kind-in = p .kind-in;
         weights = λ e. absurd (p .no-chamfer e);
         lent = record { picture-is = begun .lent .picture-is; distances-from = a; sites-from = b; scratch-from = c };
-        bytes = chain-bytes s;
-        bored = chain-bored s;
+        bytes = chain-bytes some;
+        bored = chain-bored some;
       } in
       picture-answers accepted
 
   -- and over the same buffers it makes the same distances and sites, to the last word
-  pub chain-call : {d1 d2 n : ℕ} {made : Buffers} → Sides w h → PictureCall w h kind d1 d2 picture before n made
+  pub chain-call : {d1 d2 n : ℕ} {made : Buffers} → 0 < w + h → PictureCall w h kind d1 d2 picture before n made
       → (n ≡ 0) × (after .distances ≡ made .distances) × (after .sites ≡ made .sites)
-  chain-call {d1} {d2} s call =
-      let lent = first (omega (arith, s)) .lent in
+  chain-call {d1} {d2} some call =
+      let lent = first some .lent in
       let zero = call .answered
-      ∙ chain-accepted s d1 d2 _ _ _ (lent .distances-from) (lent .sites-from) (lent .scratch-from) in
+      ∙ chain-accepted some d1 d2 _ _ _ (lent .distances-from) (lent .sites-from) (lent .scratch-from) in
       let p = call .done zero in
       let (distances, sites) = chain-beyond w h kind picture budgets 0 before (w + h) after chain in (
         zero,

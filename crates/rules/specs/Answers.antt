@@ -1,5 +1,6 @@
--- Answers that are enums, by cases: the number that document 01 gives each case (0 for accepted), and its values. A
--- refusal "is its number alone": its values are written 0 and mean nothing. Assumes nothing.
+-- Answers that are enums, by cases: the number that the documents give each case (0 for accepted), and its values. A
+-- refusal "is its number alone": its values are written 0, or the mark for the next line of a slice, and mean nothing.
+-- Assumes nothing.
 use Prim.Native.Nat.{ℕ}
 use lib.IntN.{ℤ, pos}
 use Rattle.rules.specs.declared.OpeningAnswer.{OpeningAnswer}

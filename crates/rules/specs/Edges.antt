@@ -8,7 +8,7 @@ use mathlib.Core.List.{List, [], _∷_, _++_}
 use Prim.Native.Nat.{ℕ}
 use lib.IntN.{pos, negsuc}
 use lib.Ieee.{Float, nan, inf, fin}
-use lib.ListN.{length, replicate}
+use lib.ListN.{replicate}
 use Rattle.rules.specs.declared.Setting.{Setting}
 use Rattle.rules.specs.Limits.{mark}
 use Rattle.rules.specs.Board.{cell}
@@ -143,17 +143,17 @@ abbrev pub path-edges : List Edge
 path-edges = call (lent-lane 5 6 6 6 16) 4 ∷ call (lent-lane 7 6 6 6 16) 0 ∷ []
 
 -- 4: slices unequal, empty and over 262,144, with pitch and radius 64.0
-abbrev pub slices : ℕ → ℕ → List Row
-slices squares clear = clear-rows (setting (fin false 1 (pos 6)) (fin false 1 (pos 6))) squares clear
+abbrev pub clear-of : ℕ → ℕ → List Row
+clear-of squares clear = clear-rows (setting (fin false 1 (pos 6)) (fin false 1 (pos 6))) squares clear
 
-abbrev pub slice-edges : List Edge
-slice-edges =
-    call (slices 0 0) 4
-    ∷ call (slices 1 1) 0
-    ∷ call (slices 1 2) 4
-    ∷ call (slices 2 1) 4
-    ∷ call (slices 262_144 262_144) 0
-    ∷ call (slices 262_145 262_145) 4
+abbrev pub clear-edges : List Edge
+clear-edges =
+    call (clear-of 0 0) 4
+    ∷ call (clear-of 1 1) 0
+    ∷ call (clear-of 1 2) 4
+    ∷ call (clear-of 2 1) 4
+    ∷ call (clear-of 262_144 262_144) 0
+    ∷ call (clear-of 262_145 262_145) 4
     ∷ []
 
 -- a map, a lane and costs of 2 by 1
@@ -242,7 +242,7 @@ record-edges =
     ∷ call (file-rows (0 ∷ 0 ∷ 0 ∷ 1 ∷ [])) 11
     ∷ []
 
--- 12: line numbers around W + H on a board of 3 by 2, and the greatest; a start looks at no byte
+-- 12: line numbers around W + H on a board of 3 by 2, and the greatest
 abbrev pub at-line : ℕ → List Row
 at-line line = slice-rows 3 2 0 line 6 6 6 16
 
@@ -253,7 +253,6 @@ start-edges =
     ∷ call (at-line 5) 0
     ∷ call (at-line 6) 12
     ∷ call (at-line 4_294_967_295) 12
-    ∷ call (slice-rows 1 1 0 0 (length {A = ℕ} (2 ∷ [])) 1 1 5) 0
     ∷ []
 
 -- the left column of a board of 2 by 2, by the bytes in it and those beside it
@@ -341,6 +340,6 @@ edges =
     ++ side-edges plain-map ++ side-edges plain-costs ++ side-edges plain-lane ++ side-edges plain-slice
     ++ kind-edges ++ weight-edges
     ++ lent-edges lent-map ++ lent-edges lent-costs ++ lent-edges (lent-lane 6) ++ lent-edges lent-slice
-    ++ path-edges ++ slice-edges
+    ++ path-edges ++ clear-edges
     ++ content-edges ++ end-edges ++ knob-edges ++ changeover-edges ++ length-edges ++ record-edges
     ++ start-edges ++ column-edges ++ row-edges ++ line-edges ++ order-edges

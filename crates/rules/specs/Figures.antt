@@ -142,7 +142,7 @@ abbrev pub sliced : List ℕ → List ℕ → ℕ → List ℕ → Buffers
 sliced distances sites tail words =
     buffers (distances ++ (71 ∷ [])) (sites ++ (72 ∷ [])) (words ++ replicate tail 0 ++ (73 ∷ []))
 
--- slices that begin: those that finish what the budget and the rest allow, and those that are stopped
+-- slices that begin: those that finish what the budget and the rest allow, those that are stopped, and a chain of three
 abbrev pub begun : List Figure
 begun =
     -- 2×3, line 0, budget 1: the left column, bored at both ends, of which the upper is named on the tie. The bad bytes of

@@ -1,6 +1,6 @@
--- "When the bench says no": each row of the table as a test, and for each entry its tests in its order. "The first row
--- that holds, of those the call tests, is the answer", and 0 stands for none. A test is true where its row holds.
--- Assumes nothing.
+-- "When the bench says no": each row of the table as a test, with the rows of document 02, and for each entry its tests in
+-- its order. "the first row that holds, of those the call tests, is the answer", and 0 stands for none. A test is true where
+-- its row holds. Assumes nothing.
 use mathlib.Core.Bool.{Bool, false, not, _&&_, _||_, cond}
 use mathlib.Core.List.{List, [], _∷_}
 use Prim.Native.Nat.{ℕ, zero, suc, _+_, _*_, _%_, _^_}

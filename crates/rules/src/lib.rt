@@ -1,5 +1,5 @@
 // The written rules of the board: the limits, and the types that settings and answers have. What the numbers mean is
-// in `specs/`, each definition under the sentence of document 01 that it renders.
+// in `specs/`, each definition under the sentence of document 01, or 02, that it renders.
 ghost use mathlib.Core.Path.{_≡_};
 ghost use Rattle.rules.specs.Limits.{Stated};
 

@@ -1,5 +1,5 @@
--- What a call leaves in the words that its values go to, the lane's and the slice's answer by its cases, and that each C function which
--- answers through pointers leaves one value there. Assumes nothing.
+-- What a call leaves in the words that its values go to, the lane's and the slice's answer by its cases, and that each C
+-- function which answers through pointers leaves one value there. Assumes nothing.
 use mathlib.Core.Path.{_≡_, refl, sym, _∙_, subst}
 use mathlib.Core.Logic.{by-cases}
 use Prim.Native.Nat.{ℕ}

@@ -5,21 +5,19 @@ use mathlib.Core.Path.{_≡_, refl, sym, _∙_, ap, subst, subst₂}
 use mathlib.Core.Logic.{_≢_, inl, inr, by-cases}
 use mathlib.Core.List.{List}
 use Prim.Native.Nat.{ℕ, _+_, _-_, _*_, _≤_, _<_}
-use native.Mathlib.Nat.{mul-le-mul-right}
-use native.Mathlib.Decide.{decLt, ℕ-discrete}
+use native.Mathlib.Decide.{ℕ-discrete}
 use native.Mathlib.Omega.{arith}
 use lib.ListN.{length, getD}
-use lib.Seq.{getD-drop}
-use borrow.Rule.Slice.PartMut.{putMid, midOf, put-same, drop-put, same-len-mid}
+use borrow.Rule.Slice.PartMut.{putMid, midOf, put-same}
 use Rattle.rules.specs.Limits.{mark}
 use Rattle.rules.specs.Board.{cell, away}
 use Rattle.rules.specs.Measures.{HasParts}
 use Rattle.rules.specs.Refusals.{answer}
-use Rattle.rules.specs.Calls.{Beyond}
 use Rattle.rules.specs.Slices.{word-at, row-rows, Among, BelievedWord}
 use Rattle.rules.proofs.Board.{row-ends, cell-in}
 use Rattle.rules.proofs.Columns.{row-word-same}
-use Rattle.rules.proofs.Parts.{put-before, put-inside, part-length, beyond-more, beyond-both}
+use Rattle.rules.proofs.Parts.{beyond-both}
+use Rattle.rules.proofs.RowParts.{put-here, put-elsewhere, put-beyond}
 use Rattle.rules.proofs.SliceRows.{row-passes, row-number-same}
 use Rattle.rules.proofs.Slices.{row-by-parts}
 use Rattle.gauge.specs.declared.Gauge.{Gauge}
@@ -27,9 +25,9 @@ use Rattle.rows.specs.Row.{Believed}
 use Rattle.slice_lines.specs.Lines.{RowPlace, RowOnce, RowsWritten, RowsDone}
 
 -- what the row line asks, of a row that can be done
-pub row-believed : {g : Gauge} {w h y at tail : ℕ} {scratch : List ℕ} → HasParts (g .kind)
-    → RowPlace w h y at tail (length scratch) → 0 ≡ answer (row-rows w h scratch y) → Believed g at tail scratch w
-row-believed {g} {w} {h} {y} {at} {tail} {scratch} parts P can =
+pub row-believed : {g : Gauge} {w h y at : ℕ} {scratch : List ℕ} → HasParts (g .kind)
+    → RowPlace w h y at (length scratch) → 0 ≡ answer (row-rows w h scratch y) → Believed g at (w * h) scratch w
+row-believed {g} {w} {h} {y} {at} {scratch} parts P can =
     let (named, one) = row-passes w h scratch y (sym can) in
     let (i₀, i₀-in, i₀-named) = one in
     let same : (i : ℕ) → getD scratch (at + i) 0 ≡ word-at w scratch i y = λ i. ap (λ n. getD scratch (n + i) 0) (P .at-is) in
@@ -37,8 +35,8 @@ row-believed {g} {w} {h} {y} {at} {tail} {scratch} parts P can =
       parts = parts;
       from = P .sides .width-from;
       to = P .sides .width-to;
-      before-tail = omega (arith, row-ends w (P .at-is) (P .row-in), P .tail-is);
-      room = omega (arith, P .room, P .tail-is);
+      before-tail = row-ends w (P .at-is) (P .row-in);
+      room = P .room;
       named =
           λ i l.
           by-cases (ℕ-discrete (word-at w scratch i y) mark) (λ e. inr (same i ∙ e))
@@ -47,54 +45,6 @@ row-believed {g} {w} {h} {y} {at} {tail} {scratch} parts P can =
       i₀-in = i₀-in;
       i₀-named = λ e. i₀-named (sym (same i₀) ∙ e);
     }
-
--- a row, which begins at `at`, written into a list
-module _ {w h y at : ℕ} (list part : List ℕ) (at-is : at ≡ y * w) (in-column : y < h) (room : w * h ≤ length list)
-    (long : length part ≡ w) where
-  abbrev written : List ℕ
-  written = putMid at (at + w - at) list part
-
-  inside : at + w ≤ length list
-  inside = omega (arith, row-ends w at-is in-column)
-
-  -- its words stand in it
-  pub put-here : {x : ℕ} → x < w → getD written (cell w x y) 0 ≡ getD part x 0
-  put-here {x} l =
-      ap (λ n. getD written (n + x) 0) (sym at-is) ∙ put-inside {a = at} (at + w - at) list part (omega (arith, inside)) (omega arith)
-
-  -- from its end on the list is as it was
-  past-beyond : Beyond (at + w) list written
-  past-beyond =
-      record {
-        as-long =
-            same-len-mid at (at + w - at) list part
-            (long ∙ sym (part-length {a = at} {e = at + w} list (omega arith) inside ∙ omega arith));
-        untouched = drop-put at (at + w) list part (omega arith) inside (long ∙ omega arith);
-      }
-
-  past : (c : ℕ) → at + w ≤ c → getD written c 0 ≡ getD list c 0
-  past c l =
-      let e : at + w + (c - (at + w)) ≡ c = omega arith in
-      let u = past-beyond .untouched in
-      cc (getD-drop (at + w) written (c - (at + w)) 0, getD-drop (at + w) list (c - (at + w)) 0)
-
-  -- the other rows stay
-  pub put-elsewhere : {x k : ℕ} → x < w → k ≢ y → getD written (cell w x k) 0 ≡ getD list (cell w x k) 0
-  put-elsewhere {x} {k} l other =
-      by-cases (decLt k y)
-      (λ low. put-before {a = at} (at + w - at) list part (omega (arith, inside)) (omega (arith, mul-le-mul-right w low)))
-      (λ high. let more : y + 1 ≤ k = omega arith in past (cell w x k) (omega (arith, mul-le-mul-right w more)))
-
-  -- and beyond the board everything does
-  pub put-beyond : Beyond (w * h) list written
-  put-beyond = beyond-more {n = at + w} (row-ends w at-is in-column) past-beyond
-
--- a row that is lent from a list has a word for each column
-pub row-part : {w h y at : ℕ} (list : List ℕ) → at ≡ y * w → y < h → w * h ≤ length list
-    → length (midOf at (at + w - at) list) ≡ w
-row-part {w} {at = at} list at-is in-column room =
-    let inside = row-ends w at-is in-column in
-    part-length {a = at} {e = at + w} list (omega arith) (omega arith) ∙ omega arith
 
 -- no row is written yet
 pub written-none : {w h from : ℕ} (list : List ℕ) → RowsWritten w h from from list list
@@ -125,14 +75,14 @@ rows-none scratch d s =
       sites-written = written-none s;
     }
 
-module _ {g : Gauge} {w h from y at tail : ℕ} {before after d d′ s s′ : List ℕ} (parts : HasParts (g .kind))
-    (R : RowsDone g w h from y before after d d′ s s′) (P : RowPlace w h y at tail (length after)) where
+module _ {g : Gauge} {w h from y at : ℕ} {before after d d′ s s′ : List ℕ} (parts : HasParts (g .kind))
+    (R : RowsDone g w h from y before after d d′ s s′) (P : RowPlace w h y at (length after)) where
   -- the row finds its words as they were
   kept : (x : ℕ) → x < w → word-at w after x y ≡ word-at w before x y
   kept x l = R .cells-kept (cell w x y) (cell-in l (P .row-in))
 
   module _ {after′ drow drow′ srow srow′ : List ℕ} {number : ℕ}
-      (O : RowOnce g w h y at tail after after′ drow drow′ srow srow′ number) where
+      (O : RowOnce g w h y at after after′ drow drow′ srow srow′ number) where
     -- so its number is that of the words as they were
     pub once-number : number ≡ answer (row-rows w h before y)
     once-number = O .number-is ∙ row-number-same w h after before y kept
@@ -195,11 +145,8 @@ module _ {g : Gauge} {w h from y at tail : ℕ} {before after d d′ s s′ : Li
                 by-cases (ℕ-discrete k y)
                 (λ e. subst (λ j. BelievedWord (g .kind) w before x j (getD d″ (cell w x j) 0) (getD s″ (cell w x j) 0)) (sym e)
                 (here x m)) (λ other. earlier x k m other (a .0, omega arith));
-            cells-kept =
-                λ k m. O .made is .used .kept k (omega (arith, P .tail-is)) ∙ R .cells-kept k m;
-            scratch-beyond =
-                beyond-both (R .scratch-beyond)
-                (subst (λ n. Beyond (n + w + w) after after′) (P .tail-is) (O .made is .used .beyond));
+            cells-kept = λ k m. O .made is .used .kept k m ∙ R .cells-kept k m;
+            scratch-beyond = beyond-both (R .scratch-beyond) (O .made is .used .beyond);
             distances-written = written-more d′ drow′ (P .at-is) (P .row-in) l d-long drow-long (R .distances-written);
             sites-written = written-more s′ srow′ (P .at-is) (P .row-in) l s-long srow-long (R .sites-written);
           }

@@ -30,19 +30,18 @@ pub record MostNamed (start w : ℕ) (words : List ℕ) (r : ℕ) : Type 0 where
   pub most : (i : ℕ) → i < w → rows-needed (getD words (start + i) 0) ≤ r
   pub attained : 0 < r → (i : ℕ) × (i < w) × (rows-needed (getD words (start + i) 0) ≡ r)
 
--- row y of a board, which begins at `at`: its words stand in the scratch, and 2w words from `tail` on are free
-pub record RowPlace (w h y at tail scratch : ℕ) : Type 0 where
+-- row y of a board, which begins at `at`: its words stand in the scratch, and the 2w words after the cells' words are free
+pub record RowPlace (w h y at scratch : ℕ) : Type 0 where
   pub sides : Sides w h
   pub row-in : y < h
   pub at-is : at ≡ y * w
-  pub tail-is : tail ≡ w * h
   pub room : w * h + w + w ≤ scratch
 
 -- one row line: it answers the row's number, and is made where that is 0
-pub record RowOnce (g : Gauge) (w h y at tail : ℕ) (before after d d′ s s′ : List ℕ) (number : ℕ) : Type 0 where
+pub record RowOnce (g : Gauge) (w h y at : ℕ) (before after d d′ s s′ : List ℕ) (number : ℕ) : Type 0 where
   pub number-is : number ≡ answer (row-rows w h before y)
   pub stopped : number ≢ 0 → (after ≡ before) × (d′ ≡ d) × (s′ ≡ s)
-  pub made : number ≡ 0 → RowMade g y at tail w before after d′ s′
+  pub made : number ≡ 0 → RowMade g y at (w * h) w before after d′ s′
 
 -- a list of which no words were written but those of the rows from..y
 pub record RowsWritten (w h from y : ℕ) (before after : List ℕ) : Type 0 where
@@ -61,7 +60,7 @@ pub record RowsDone (g : Gauge) (w h from y : ℕ) (before after d d′ s s′ :
   pub sites-written : RowsWritten w h from y s s′
 
 -- the row lines from..to, up to the first that stops
-pub record RowsStopped (g : Gauge) (w h from to : ℕ) (before after d d′ s s′ : List ℕ) (number y : ℕ) : Type 0 where
+pub record RowsEnded (g : Gauge) (w h from to : ℕ) (before after d d′ s s′ : List ℕ) (number y : ℕ) : Type 0 where
   pub from-in : from ≤ y
   pub to-in : y ≤ to
   pub done : RowsDone g w h from y before after d d′ s s′

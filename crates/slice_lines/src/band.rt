@@ -26,7 +26,8 @@ fn first_bad(w: usize, h: usize, from: usize, to: usize, picture: &[u8]) -> usiz
     to
 }
 
-// The column lines from..to, up to the first that has a bad byte: which that is, or `to`.
+// The column lines from..to, up to the first that has a bad byte: which that is, or `to`. A band of no column is left at
+// once: a call that begins at a row would else go down all rows of it.
 pub fn column_lines(
     w: usize,
     h: usize,

@@ -10,10 +10,10 @@ ghost use Rattle.rules.specs.Board.{Sides};
 ghost use Rattle.rules.specs.Measures.{HasParts};
 ghost use Rattle.rules.specs.Refusals.{answer};
 ghost use Rattle.rules.specs.Slices.{row-rows};
-ghost use Rattle.slice_lines.specs.Lines.{rows-needed, MostNamed, RowPlace, RowOnce, RowsStopped};
+ghost use Rattle.slice_lines.specs.Lines.{rows-needed, MostNamed, RowPlace, RowOnce, RowsEnded};
 
 // How the row lines ended: the number that stopped them, 0 for none, and the row after the last that was done.
-pub struct RowStop {
+pub struct RowEnd {
     pub number: u32,
     pub row: usize,
 }
@@ -46,7 +46,7 @@ fn most_named(start: usize, w: usize, words: &[u32]) -> u32
 }
 
 // The number at which the row line stops whose words begin at `start`, 0 for none.
-fn row_refusal(w: usize, h: usize, start: usize, words: &[u32]) -> u32
+fn row_number(w: usize, h: usize, start: usize, words: &[u32]) -> u32
     requires { ⌜ start + w ≤ length (now words) ⌝ }
     ensures { λ r. ⌜ ((y : ℕ) → start ≡ y * w → r ≡ answer (row-rows w h (now (words .entry)) y)) ⌝ }
 {
@@ -66,22 +66,22 @@ fn one_row(
     h: usize,
     y: usize,
     at: usize,
-    tail: usize,
     scratch: &mut [u32],
     values: &mut [u64],
     distances: &mut [u32],
     sites: &mut [u32],
 ) -> u32
-    requires { ⌜ HasParts (g .kind) × RowPlace (length (now values)) h y at tail (length (now scratch))
+    requires { ⌜ HasParts (g .kind) × RowPlace (length (now values)) h y at (length (now scratch))
         × (length (now distances) ≡ length (now values)) × (length (now sites) ≡ length (now values)) ⌝ }
-    ensures { λ r. ⌜ RowOnce g (length (now (values .entry))) h y at tail (now (scratch .entry)) (now (scratch .exit))
+    ensures { λ r. ⌜ RowOnce g (length (now (values .entry))) h y at (now (scratch .entry)) (now (scratch .exit))
         (now (distances .entry)) (now (distances .exit)) (now (sites .entry)) (now (sites .exit)) r ⌝ }
 {
-    let number = row_refusal(values.len(), h, at, scratch);
+    let w = values.len();
+    let number = row_number(w, h, at, scratch);
     if number != 0 {
         return number;
     }
-    row_line(g, y, at, tail, scratch, values, distances, sites);
+    row_line(g, y, at, w * h, scratch, values, distances, sites);
     0
 }
 
@@ -95,14 +95,13 @@ pub fn row_lines(
     distances: &mut [u32],
     sites: &mut [u32],
     scratch: &mut [u32],
-) -> RowStop
+) -> RowEnd
     requires { ⌜ HasParts (g .kind) × Sides w h × (from ≤ to) × (to ≤ h) × (w * h ≤ length (now distances))
         × (w * h ≤ length (now sites)) × (w * h + w + w ≤ length (now scratch)) ⌝ }
-    ensures { λ r. ⌜ RowsStopped g w h from to (now (scratch .entry)) (now (scratch .exit))
+    ensures { λ r. ⌜ RowsEnded g w h from to (now (scratch .entry)) (now (scratch .exit))
         (now (distances .entry)) (now (distances .exit)) (now (sites .entry)) (now (sites .exit)) (r .number) (r .row) ⌝ }
 {
     let mut line = [0u64; SIDE_LIMIT as usize];
-    let tail = w * h;
     let mut at = from * w;
     let mut y = from;
     while y < to {
@@ -112,17 +111,16 @@ pub fn row_lines(
             h,
             y,
             at,
-            tail,
             scratch,
             &mut line[..w],
             &mut distances[at..end],
             &mut sites[at..end],
         );
         if number != 0 {
-            return RowStop { number, row: y };
+            return RowEnd { number, row: y };
         }
         at = end;
         y += 1;
     }
-    RowStop { number: 0, row: to }
+    RowEnd { number: 0, row: y }
 }

@@ -22,7 +22,7 @@ use Rattle.rules.proofs.SliceRows.{column-line-number, row-line-number, row-num
 use Rattle.gauge.specs.declared.Gauge.{Gauge}
 use Rattle.columns.specs.Bands.{Swept}
 use Rattle.columns.proofs.Bands.{band-beyond}
-use Rattle.slice_lines.specs.Lines.{FirstBad, RowsStopped}
+use Rattle.slice_lines.specs.Lines.{FirstBad, RowsEnded}
 use Rattle.slices.specs.Work.{TailZeroed, LinesDone}
 
 -- with n lines allowed from `line` to `end`: as many are finished as there are from `line` to `next`
@@ -99,7 +99,7 @@ module _ {w h line end c : ℕ} {picture before swept : List ℕ} (l : line ≤ 
 
   -- a call that goes on to the rows, after the last column
   module _ {g : Gauge} {d d′ s s′ after : List ℕ} {number y : ℕ} (far : w < end) (last : min end w ≤ c) (few : end ≤ w + h)
-      (R : RowsStopped g w h (line - w) (end - w) swept after d d′ s s′ number y) where
+      (R : RowsEnded g w h (line - w) (end - w) swept after d d′ s s′ number y) where
     -- every column is done
     all-columns : c ≡ w
     all-columns = omega (arith, F .to-in)

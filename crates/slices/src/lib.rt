@@ -18,6 +18,7 @@ ghost use Rattle.rules.specs.Accepted.{SliceAccepted};
 ghost use Rattle.rules.specs.Answers.{slice-start, slice-number, slice-finished, slice-next};
 ghost use Rattle.rules.specs.Calls.{buffers};
 ghost use Rattle.rules.specs.Slices.{allowed, SliceAfter, SliceCall};
+ghost use Rattle.slice_lines.specs.Lines.{RowsEnded};
 ghost use Rattle.slices.specs.Work.{LinesDone};
 
 // What a slice call asks: the board's sides, the kind, the line that it begins at, and how many lines it may finish.
@@ -30,7 +31,7 @@ struct SliceAsked {
 }
 
 // How the lines ended: the number that stopped them, 0 for none, and the next line.
-struct Stop {
+struct Ended {
     pub number: u32,
     pub next: usize,
 }
@@ -85,6 +86,32 @@ fn reach(w: usize, h: usize, line: usize, budget: usize) -> usize
     line + lesser(budget, w + h - line)
 }
 
+// The rows among the lines from `line` up to `end`.
+fn rows_done(
+    g: Gauge,
+    w: usize,
+    h: usize,
+    line: usize,
+    end: usize,
+    distances: &mut [u32],
+    sites: &mut [u32],
+    scratch: &mut [u32],
+) -> Ended
+    requires { ⌜ HasParts (g .kind) × Sides w h × (line ≤ end) × (end ≤ w + h) × (w * h ≤ length (now distances))
+        × (w * h ≤ length (now sites)) × (w * h + w + w ≤ length (now scratch)) ⌝ }
+    ensures { λ r. ⌜ (w ≤ r .next) × RowsEnded g w h (line - w) (end - w) (now (scratch .entry)) (now (scratch .exit))
+        (now (distances .entry)) (now (distances .exit)) (now (sites .entry)) (now (sites .exit))
+        (r .number) (r .next - w) ⌝ }
+{
+    let from = rows_before(line, w);
+    let to = rows_before(end, w);
+    let rows = row_lines(g, w, h, from, to, distances, sites, scratch);
+    Ended {
+        number: rows.number,
+        next: w + rows.row,
+    }
+}
+
 // The lines from `line` up to `end`: the columns among them, then the rows among them. They end where one can't be done.
 fn lines_done(
     g: Gauge,
@@ -96,7 +123,7 @@ fn lines_done(
     distances: &mut [u32],
     sites: &mut [u32],
     scratch: &mut [u32],
-) -> Stop
+) -> Ended
     requires { ⌜ HasParts (g .kind) × Sides w h × (line ≤ end) × (end ≤ w + h) × (length (now picture) ≡ w * h)
         × (w * h ≤ length (now distances)) × (w * h ≤ length (now sites)) × (scratch-words w h ≤ length (now scratch)) ⌝ }
     ensures { λ r. ⌜ LinesDone w h (g .kind) line end (now (picture .entry))
@@ -106,31 +133,18 @@ fn lines_done(
     let columns = lesser(end, w);
     let column = column_lines(w, h, lesser(line, w), columns, picture, scratch);
     if column < columns {
-        return Stop {
+        return Ended {
             number: 5,
             next: column,
         };
     }
     if end <= w {
-        return Stop {
+        return Ended {
             number: 0,
             next: end,
         };
     }
-    let rows = row_lines(
-        g,
-        w,
-        h,
-        rows_before(line, w),
-        rows_before(end, w),
-        distances,
-        sites,
-        scratch,
-    );
-    Stop {
-        number: rows.number,
-        next: w + rows.row,
-    }
+    rows_done(g, w, h, line, end, distances, sites, scratch)
 }
 
 // A slice that has passed the tests of its start.
@@ -140,24 +154,29 @@ fn accepted_slice(
     distances: &mut [u32],
     sites: &mut [u32],
     scratch: &mut [u32],
-) -> Stop
+) -> SliceAnswer
     requires { ⌜ SliceAccepted (a .w) (a .h) (a .kind) (a .line) (length (now picture)) (length (now distances))
         (length (now sites)) (length (now scratch)) ⌝ }
-    ensures { λ r. ⌜ SliceAfter (a .w) (a .h) (a .kind) (a .line) (a .budget) (now (picture .entry))
+    ensures { λ r. ⌜ (slice-start r ≡ 0) × SliceAfter (a .w) (a .h) (a .kind) (a .line) (a .budget) (now (picture .entry))
         (buffers (now (distances .entry)) (now (sites .entry)) (now (scratch .entry)))
-        (r .number) (r .next - a .line) (r .next)
+        (slice-number r) (slice-finished r) (slice-next r)
         (buffers (now (distances .exit)) (now (sites .exit)) (now (scratch .exit))) ⌝ }
 {
     let w = a.w as usize;
     let h = a.h as usize;
     let line = a.line as usize;
-    let end = reach(w, h, line, a.budget as usize);
     let g = Gauge { kind: a.kind };
-    let stop = lines_done(g, w, h, line, end, picture, distances, sites, scratch);
+    let end = reach(w, h, line, a.budget as usize);
+    let ended = lines_done(g, w, h, line, end, picture, distances, sites, scratch);
     let cells = w * h;
     let words = scratch_words(w, h);
     set_all(&mut scratch[cells..words], 0);
-    stop
+    let next = ended.next as u32;
+    SliceAnswer::Worked {
+        number: ended.number,
+        finished: next - a.line,
+        next,
+    }
 }
 
 // A slice of a map: the number that stopped it, 0 for none, the lines that it finished and the next line; or the number of
@@ -195,11 +214,5 @@ pub fn slice(
     if refused != 0 {
         return SliceAnswer::Refused(refused);
     }
-    let stop = accepted_slice(a, picture, distances, sites, scratch);
-    let next = stop.next as u32;
-    SliceAnswer::Worked {
-        number: stop.number,
-        finished: next - line,
-        next,
-    }
+    accepted_slice(a, picture, distances, sites, scratch)
 }

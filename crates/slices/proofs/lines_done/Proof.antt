@@ -1,10 +1,10 @@
 -- `slices::lines_done` meets its contract: the columns, and where they go through, the rows. Assumes nothing.
 use mathlib.Core.Path.{_≡_, refl, subst, subst₂}
-use Prim.Native.Nat.{_-_, _<_, min}
+use Prim.Native.Nat.{_+_, _-_, _<_, min}
 use native.Mathlib.Omega.{arith}
 use Rattle.rules.specs.Calls.{buffers}
 use Rattle.columns.specs.Bands.{Swept}
-use Rattle.slice_lines.specs.Lines.{FirstBad, RowsStopped}
+use Rattle.slice_lines.specs.Lines.{FirstBad}
 use Rattle.slices.specs.Work.{LinesDone}
 use Rattle.slices.proofs.After.{columns-left, rows-left}
 use borrow.Author.Needs.{needs}
@@ -18,11 +18,11 @@ begun c = c .before .before .before .before .before .before .before .before
 abbrev swept : tie.After-slice-known4 → tie.After-column-lines
 swept c = c .before .before
 
-abbrev lined : tie.After-struct-known → tie.After-row-lines
-lined c = c .before .before .before .before .before .before .before
+abbrev lined : tie.After-slice-known7 → tie.After-rows-done
+lined c = c .before .before .before .before .before .before
 
-abbrev gone-on : tie.After-row-lines → tie.Else2
-gone-on c = c .before .before .before .before .before .before
+abbrev gone-on : tie.After-rows-done → tie.Else2
+gone-on c = c .before .before .before .before
 
 -- what the columns came to
 columns : (c : tie.After-column-lines) → let a = begun c .args in
@@ -52,10 +52,12 @@ same-length c = search needs
 returns : tie.Need-returns
 returns c =
     let k = swept (c .before) in
-    let (F, S) = columns k in
     let a = begun k .args in
-    let early : k .column-lines .result < min (a .end) (a .w) = omega (arith, c .if1 .taken, k .before .before .before .lesser .ensures) in
-    columns-left (begun k .pre .2) F S (omega (arith, F .from-in, early)) (λ e. absurd (omega (arith, early))) (λ _. (early, refl))
+    let (F, S) = columns k in
+    let early : k .column-lines .result < min (a .end) (a .w) =
+    omega (arith, c .if1 .taken, k .before .before .before .lesser .ensures) in
+    columns-left (begun k .pre .2) F S (omega (arith, F .from-in, early)) (λ e. absurd (omega (arith, early)))
+    (λ _. (early, refl))
 
 same-length-2 : tie.Need-same-length-2
 same-length-2 c = search needs
@@ -70,39 +72,11 @@ returns-2 c =
     subst (λ n. LinesDone (a .w) (a .h) (a .g .kind) (a .line) (a .end) (a .picture .now)
     (buffers (a .distances .now) (a .sites .now) (a .scratch .now)) 0 n
     (buffers (a .distances .now) (a .sites .now) (k .column-lines .last .1 .1 .1 .1 .1 .0))) all
-    (columns-left (begun k .pre .2) F S (omega (arith, begun k .pre .2, c .if2 .taken)) (λ _. refl) (λ l. absurd (omega arith)))
+    (columns-left (begun k .pre .2) F S (omega (arith, begun k .pre .2, c .if2 .taken)) (λ _. refl)
+    (λ l. absurd (omega arith)))
 
-rows-before-requires : tie.Need-rows-before-requires
-rows-before-requires c κs = search needs
-
-rows-before-requires-2 : tie.Need-rows-before-requires-2
-rows-before-requires-2 c κs = search needs
-
-row-lines-requires : tie.Need-row-lines-requires
-row-lines-requires c κs = search needs
-
--- what the rows came to
-rows-told : (c : tie.After-row-lines) → let k = swept (gone-on c .before .before) in
-    let a = begun k .args in
-    let r = c .row-lines in
-    RowsStopped (a .g) (a .w) (a .h) (a .line - a .w) (a .end - a .w) (k .column-lines .last .1 .1 .1 .1 .1 .0)
-    (r .last .1 .1 .1 .1 .1 .1 .1 .0) (a .distances .now) (r .last .1 .1 .1 .1 .1 .0) (a .sites .now)
-    (r .last .1 .1 .1 .1 .1 .1 .0) (r .result .number) (r .result .row)
-rows-told c =
-    let k = swept (gone-on c .before .before) in
-    let a = begun k .args in
-    let r = c .row-lines in
-    let second = c .before .before .before .before in
-    subst₂ (λ from to. RowsStopped (a .g) (a .w) (a .h) from to (k .column-lines .last .1 .1 .1 .1 .1 .0)
-    (r .last .1 .1 .1 .1 .1 .1 .1 .0) (a .distances .now) (r .last .1 .1 .1 .1 .1 .0) (a .sites .now)
-    (r .last .1 .1 .1 .1 .1 .1 .0) (r .result .number) (r .result .row)) (second .before .rows-before .ensures)
-    (second .rows-before2 .ensures) (r .ensures)
-
-add-t13 : tie.Need-add-t13
-add-t13 c =
-    let R = rows-told (lined c) in
-    let k = swept (gone-on (lined c) .before .before) in
-    omega (arith, R .to-in, begun k .pre .3, begun k .pre .1)
+rows-done-requires : tie.Need-rows-done-requires
+rows-done-requires c κs = search needs
 
 same-length-3 : tie.Need-same-length-3
 same-length-3 c = search needs
@@ -115,11 +89,19 @@ same-length-5 c = search needs
 
 returns-3 : tie.Need-returns-3
 returns-3 c =
-    let e = gone-on (lined c) in
+    let l = lined c in
+    let e = gone-on l in
     let k = swept (e .before .before) in
+    let a = begun k .args in
+    let r = l .rows-done in
     let (F, S) = columns k in
-    rows-left (begun k .pre .2) F S (e .if2 .left)
-    (omega (arith, e .before .if1 .left, k .before .before .before .lesser .ensures)) (begun k .pre .3) (rows-told (lined c))
+    let (past, R) = r .ensures in
+    let next : a .w + (r .result .next - a .w) ≡ r .result .next = omega arith in
+    subst (λ n. LinesDone (a .w) (a .h) (a .g .kind) (a .line) (a .end) (a .picture .now)
+    (buffers (a .distances .now) (a .sites .now) (a .scratch .now)) (r .result .number) n
+    (buffers (r .last .1 .1 .1 .1 .1 .0) (r .last .1 .1 .1 .1 .1 .1 .0) (r .last .1 .1 .1 .1 .1 .1 .1 .0))) next
+    (rows-left (begun k .pre .2) F S (e .if2 .left)
+    (omega (arith, e .before .if1 .left, k .before .before .before .lesser .ensures)) (begun k .pre .3) R)
 
 pub lines-done-spec : {M : Type 1} → statement M
 lines-done-spec =
@@ -132,10 +114,7 @@ lines-done-spec =
     returns
     same-length-2
     returns-2
-    rows-before-requires
-    rows-before-requires-2
-    row-lines-requires
-    add-t13
+    rows-done-requires
     same-length-3
     same-length-4
     same-length-5

@@ -21,7 +21,7 @@ sweep-requires c κs =
     let f = c .before in
     let F = f .first-bad .ensures in
     let p = begun f .pre in
-    (record { sides = p .0 .sides; ordered = F .from-in; columns-in = omega (arith, F .to-in, p .0 .columns-in) }, p .1, p .2)
+    (record { sides = p .0 .sides; ordered = omega (arith, F); columns-in = omega (arith, F, p .0) }, p .1, p .2)
 
 same-length : tie.Need-same-length
 same-length c = search needs

@@ -5,14 +5,14 @@ use native.Mathlib.Omega.{arith}
 use lib.ListN.{length}
 use Rattle.rules.specs.Refusals.{answer}
 use Rattle.rules.specs.Slices.{row-rows}
-use Rattle.rules.proofs.Board.{row-ends}
+use Rattle.rules.proofs.Board.{row-ends, cells-few}
 use Rattle.slice_lines.proofs.Rows.{row-believed}
 use borrow.Author.Needs.{needs}
 use Rattle.slice_lines.proofs.row_by_row.one_row.Statement.{statement}
 use Rattle.slice_lines.proofs.row_by_row.one_row.Tie as tie
 
 -- the ways back: from the test to the start, from the row line to the test, and from the end to the row line
-abbrev begun : tie.After-row-refusal-arg → tie.Start
+abbrev begun : tie.After-row-number-arg → tie.Start
 begun c = c .before .before .before .before .before
 
 abbrev tested : tie.After-row-line-arg4 → tie.Else1
@@ -21,8 +21,8 @@ tested c = c .before .before .before .before
 abbrev lined : tie.After-slice-known8 → tie.After-row-line
 lined c = c .before .before .before .before .before .before .before .before
 
-row-refusal-requires : tie.Need-row-refusal-requires
-row-refusal-requires c κs =
+row-number-requires : tie.Need-row-number-requires
+row-number-requires c κs =
     let P = begun c .pre .1 in omega (arith, row-ends _ (P .at-is) (P .row-in), P .room)
 
 same-length : tie.Need-same-length
@@ -32,7 +32,7 @@ returns : tie.Need-returns
 returns c =
     let n = c .before in
     record {
-      number-is = n .row-refusal .ensures _ (begun (n .before) .pre .1 .at-is);
+      number-is = n .row-number .ensures _ (begun (n .before) .pre .1 .at-is);
       stopped = λ _. (refl, refl, refl);
       made = λ z. absurd (c .if1 .taken z);
     }
@@ -40,7 +40,10 @@ returns c =
 -- past the test the row can be done
 can : (c : tie.Else1) → let a = begun (c .before .before) .args in
     0 ≡ answer (row-rows (length (a .values .now)) (a .h) (a .scratch .now) (a .y))
-can c = sym (c .if1 .left) ∙ c .before .row-refusal .ensures _ (begun (c .before .before) .pre .1 .at-is)
+can c = sym (c .if1 .left) ∙ c .before .row-number .ensures _ (begun (c .before .before) .pre .1 .at-is)
+
+mul-row-line : tie.Need-mul-row-line
+mul-row-line c = omega (arith, cells-few (begun (c .before .before) .pre .1 .sides))
 
 row-line-requires : tie.Need-row-line-requires
 row-line-requires c κs =
@@ -70,9 +73,10 @@ pub one-row-spec : {M : Type 1} → statement M
 one-row-spec =
     tie.close
     (tie.spec
-    row-refusal-requires
+    row-number-requires
     same-length
     returns
+    mul-row-line
     row-line-requires
     same-length-2
     same-length-3

@@ -9,18 +9,19 @@ use lib.Seq.{length-take-le, length-front}
 use borrow.Rule.Slice.PartMut.{putMid}
 use Rattle.rules.specs.Limits.{side-limit}
 use Rattle.rules.proofs.Board.{cells-few, row-ends}
+use Rattle.rules.proofs.RowParts.{row-part}
 use Rattle.slice_lines.specs.Lines.{RowPlace, RowOnce, RowsDone}
-use Rattle.slice_lines.proofs.Rows.{row-part, rows-none, once-number, rows-stay, rows-more}
+use Rattle.slice_lines.proofs.Rows.{rows-none, once-number, rows-stay, rows-more}
 use Rattle.slice_lines.proofs.row_by_row.row_lines.Statement.{statement}
 use Rattle.slice_lines.proofs.row_by_row.row_lines.Tie as tie
 
 abbrev Inv-loop : tie.InvT-loop
-Inv-loop g w h from to distances₀ sites₀ scratch₀ line₀ tail at₀ y₀ distances sites scratch line at y =
+Inv-loop g w h from to distances₀ sites₀ scratch₀ line₀ at₀ y₀ distances sites scratch line at y =
     RowsDone g w h from y scratch₀ scratch distances₀ distances sites₀ sites × (at ≡ y * w) × (from ≤ y) × (y ≤ to)
     × (length line ≡ side-limit)
 
 abbrev μ-loop : tie.MeasureT-loop
-μ-loop g w h from to distances₀ sites₀ scratch₀ line₀ tail at₀ y₀ distances sites scratch line at y = to - y
+μ-loop g w h from to distances₀ sites₀ scratch₀ line₀ at₀ y₀ distances sites scratch line at y = h - y
 
 -- the ways back: from a turn of the loop to the start, from the line that is lent to its turn, from all that is lent to
 -- the line, and from the end of the turn to the row line
@@ -38,7 +39,7 @@ lined c = c .before .before .before .before .before .before .before
 
 -- the row's place on the board
 place : (c : tie.In-loop Inv-loop μ-loop) → let a = at-start c .args in
-    RowPlace (a .w) (a .h) (c .before .loop .y) (c .before .loop .at) (a .w * a .h) (length (c .before .loop .scratch))
+    RowPlace (a .w) (a .h) (c .before .loop .y) (c .before .loop .at) (length (c .before .loop .scratch))
 place c =
     let p = at-start c .pre in
     let i = c .before .loop .inv in
@@ -46,7 +47,6 @@ place c =
       sides = p .1;
       row-in = omega (arith, c .loop-test .taken, p .3);
       at-is = i .1;
-      tail-is = refl;
       room = omega (arith, p .6, i .0 .scratch-beyond .as-long);
     }
 
@@ -72,9 +72,6 @@ lent-sites : (c : tie.In-loop Inv-loop μ-loop) → let w = at-start c .args .w 
 lent-sites c =
     row-part (c .before .loop .sites) (place c .at-is) (place c .row-in)
     (omega (arith, at-start c .pre .5, c .before .loop .inv .0 .sites-written .beyond .as-long))
-
-mul-tail : tie.Need-mul-tail Inv-loop μ-loop
-mul-tail c = omega (arith, cells-few (c .before .before .before .pre .1))
 
 mul-at : tie.Need-mul-at Inv-loop μ-loop
 mul-at c =
@@ -129,7 +126,7 @@ one-row-requires c κs =
     let a = at-start k .args in
     let w = lent k in (
       at-start k .pre .0,
-      subst (λ n. RowPlace n (a .h) (k .before .loop .y) (k .before .loop .at) (a .w * a .h) (length (k .before .loop .scratch)))
+      subst (λ n. RowPlace n (a .h) (k .before .loop .y) (k .before .loop .at) (length (k .before .loop .scratch)))
           (sym w) (place k),
       lent-distances k ∙ sym w,
       lent-sites k ∙ sym w,
@@ -140,19 +137,19 @@ once : (c : tie.After-one-row Inv-loop μ-loop) → let k = turn (lending (c .be
     let a = at-start k .args in
     let r = c .one-row in
     let at = k .before .loop .at in
-    RowOnce (a .g) (a .w) (a .h) (k .before .loop .y) at (a .w * a .h) (k .before .loop .scratch)
-    (r .last .1 .1 .1 .1 .1 .0) (take (at + a .w - at) (drop at (k .before .loop .distances)))
-    (r .last .1 .1 .1 .1 .1 .1 .1 .0) (take (at + a .w - at) (drop at (k .before .loop .sites)))
-    (r .last .1 .1 .1 .1 .1 .1 .1 .1 .0) (r .result)
+    RowOnce (a .g) (a .w) (a .h) (k .before .loop .y) at (k .before .loop .scratch)
+    (r .last .1 .1 .1 .1 .0) (take (at + a .w - at) (drop at (k .before .loop .distances)))
+    (r .last .1 .1 .1 .1 .1 .1 .0) (take (at + a .w - at) (drop at (k .before .loop .sites)))
+    (r .last .1 .1 .1 .1 .1 .1 .1 .0) (r .result)
 once c =
     let k = turn (lending (c .before)) in
     let a = at-start k .args in
     let r = c .one-row in
     let at = k .before .loop .at in
-    subst (λ n. RowOnce (a .g) n (a .h) (k .before .loop .y) at (a .w * a .h) (k .before .loop .scratch)
-    (r .last .1 .1 .1 .1 .1 .0) (take (at + a .w - at) (drop at (k .before .loop .distances)))
-    (r .last .1 .1 .1 .1 .1 .1 .1 .0) (take (at + a .w - at) (drop at (k .before .loop .sites)))
-    (r .last .1 .1 .1 .1 .1 .1 .1 .1 .0) (r .result)) (lent k) (r .ensures)
+    subst (λ n. RowOnce (a .g) n (a .h) (k .before .loop .y) at (k .before .loop .scratch)
+    (r .last .1 .1 .1 .1 .0) (take (at + a .w - at) (drop at (k .before .loop .distances)))
+    (r .last .1 .1 .1 .1 .1 .1 .0) (take (at + a .w - at) (drop at (k .before .loop .sites)))
+    (r .last .1 .1 .1 .1 .1 .1 .1 .0) (r .result)) (lent k) (r .ensures)
 
 -- where it stops, the rows before it are done
 stays : (c : tie.Then1 Inv-loop μ-loop) → let l = lined (c .before) in
@@ -160,9 +157,9 @@ stays : (c : tie.Then1 Inv-loop μ-loop) → let l = lined (c .before) in
     let a = at-start k .args in
     let r = l .one-row in
     let at = k .before .loop .at in
-    RowsDone (a .g) (a .w) (a .h) (a .from) (k .before .loop .y) (a .scratch .now) (r .last .1 .1 .1 .1 .1 .0)
-    (a .distances .now) (putMid at (at + a .w - at) (k .before .loop .distances) (r .last .1 .1 .1 .1 .1 .1 .1 .0))
-    (a .sites .now) (putMid at (at + a .w - at) (k .before .loop .sites) (r .last .1 .1 .1 .1 .1 .1 .1 .1 .0))
+    RowsDone (a .g) (a .w) (a .h) (a .from) (k .before .loop .y) (a .scratch .now) (r .last .1 .1 .1 .1 .0)
+    (a .distances .now) (putMid at (at + a .w - at) (k .before .loop .distances) (r .last .1 .1 .1 .1 .1 .1 .0))
+    (a .sites .now) (putMid at (at + a .w - at) (k .before .loop .sites) (r .last .1 .1 .1 .1 .1 .1 .1 .0))
 stays c =
     let l = lined (c .before) in
     let k = turn (lending (l .before)) in
@@ -194,7 +191,7 @@ add-y : tie.Need-add-y Inv-loop μ-loop
 add-y c = omega arith
 
 loop-less : tie.Need-loop-less Inv-loop μ-loop
-loop-less c = omega arith
+loop-less c = let k = turn (lending (lined (c .before) .before)) in omega (arith, place k .row-in)
 
 loop-again : tie.Need-loop-again Inv-loop μ-loop
 loop-again c =
@@ -204,11 +201,11 @@ loop-again c =
     let p = at-start k .pre in
     let i = k .before .loop .inv in (
       rows-more (p .0) (i .0) (place k) (once l) (c .if1 .left) (i .2) (p .4) (p .5)
-          (r .kept .1 .1 .1 .1 .1 .1 .1 .0 ∙ lent-distances k) (r .kept .1 .1 .1 .1 .1 .1 .1 .1 .0 ∙ lent-sites k),
+          (r .kept .1 .1 .1 .1 .1 .1 .0 ∙ lent-distances k) (r .kept .1 .1 .1 .1 .1 .1 .1 .0 ∙ lent-sites k),
       omega arith,
       omega (arith, i .2),
       omega arith,
-      length-front (k .before .loop .line) (r .last .1 .1 .1 .1 .1 .1 .0) (at-start k .args .w) (r .kept .1 .1 .1 .1 .1 .1 .0) ∙ i .4,
+      length-front (k .before .loop .line) (r .last .1 .1 .1 .1 .1 .0) (at-start k .args .w) (r .kept .1 .1 .1 .1 .1 .0) ∙ i .4,
     )
 
 same-length-4 : tie.Need-same-length-4 Inv-loop μ-loop
@@ -222,17 +219,13 @@ same-length-6 c = c .before .loop .inv .0 .scratch-beyond .as-long
 
 returns-2 : tie.Need-returns-2 Inv-loop μ-loop
 returns-2 c =
-    let a = c .before .before .before .before .before .args in
     let i = c .before .loop .inv in
-    let all : c .before .loop .y ≡ a .to = omega (arith, i .3, c .loop-test .left) in
     record {
-      from-in = omega (arith, i .2);
-      to-in = omega arith;
-      done =
-          subst (λ y. RowsDone (a .g) (a .w) (a .h) (a .from) y (a .scratch .now) (c .before .loop .scratch)
-          (a .distances .now) (c .before .loop .distances) (a .sites .now) (c .before .loop .sites)) all (i .0);
+      from-in = i .2;
+      to-in = i .3;
+      done = i .0;
       all-done = λ _. refl;
-      stopped = λ l. absurd (omega arith);
+      stopped = λ l. absurd (omega (arith, c .loop-test .left));
     }
 
 pub row-lines-spec : {M : Type 1} → statement M
@@ -241,7 +234,6 @@ row-lines-spec =
     (tie.spec
     Inv-loop
     μ-loop
-    mul-tail
     mul-at
     loop-holds
     add-end

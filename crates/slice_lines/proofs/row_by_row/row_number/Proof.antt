@@ -1,10 +1,10 @@
--- `slice_lines::row_by_row::row_refusal` meets its contract: the most rows that a word asks for tells the number. Assumes
+-- `slice_lines::row_by_row::row_number` meets its contract: the most rows that a word asks for tells the number. Assumes
 -- nothing.
 use mathlib.Core.Path.{sym}
 use Rattle.slice_lines.proofs.Testing.{most-13, most-6, most-0}
 use borrow.Author.Needs.{needs}
-use Rattle.slice_lines.proofs.row_by_row.row_refusal.Statement.{statement}
-use Rattle.slice_lines.proofs.row_by_row.row_refusal.Tie as tie
+use Rattle.slice_lines.proofs.row_by_row.row_number.Statement.{statement}
+use Rattle.slice_lines.proofs.row_by_row.row_number.Tie as tie
 
 most-named-requires : tie.Need-most-named-requires
 most-named-requires c κs = search needs
@@ -21,5 +21,5 @@ returns-2 c = λ y e. sym (most-6 (c .before .before .most-named .ensures) _ y e
 returns-3 : tie.Need-returns-3
 returns-3 c = λ y e. sym (most-0 (c .before .before .most-named .ensures) _ y e (c .before .if1 .left) (c .if2 .left))
 
-pub row-refusal-spec : {M : Type 1} → statement M
-row-refusal-spec = tie.close (tie.spec most-named-requires cast-most returns returns-2 returns-3)
+pub row-number-spec : {M : Type 1} → statement M
+row-number-spec = tie.close (tie.spec most-named-requires cast-most returns returns-2 returns-3)

@@ -8,6 +8,7 @@ use borrow.Rule.Slice.PartMut.{putMid}
 use Rattle.rules.specs.Slices.{SliceAfter}
 use Rattle.rules.specs.Calls.{buffers}
 use Rattle.rules.proofs.Board.{cells-few}
+use Rattle.rules.proofs.SliceRows.{slice-parts}
 use Rattle.rules.proofs.Slices.{next-in}
 use Rattle.slices.proofs.After.{tail-zeroed}
 use borrow.Author.Needs.{needs}
@@ -40,7 +41,19 @@ reach-requires : tie.Need-reach-requires
 reach-requires c κs = search needs
 
 lines-done-requires : tie.Need-lines-done-requires
-lines-done-requires c κs = search needs
+lines-done-requires c κs =
+    let r = c .before .before .before in
+    let p = r .before .before .before .before .before .before .before .before .before .pre in
+    let end = r .reach .ensures in (
+      slice-parts (p .kind-in),
+      p .sides,
+      omega (arith, end),
+      omega (arith, end, p .line-in),
+      p .lent .picture-is,
+      p .lent .distances-from,
+      p .lent .sites-from,
+      p .lent .scratch-from,
+    )
 
 mul-cells : tie.Need-mul-cells
 mul-cells c = omega (arith, cells-few (begun (worked c) .pre .sides))
@@ -52,10 +65,10 @@ mul-set-all : tie.Need-mul-set-all
 mul-set-all c = omega (arith, cells-few (begun (worked (c .before)) .pre .sides))
 
 sub-set-all : tie.Need-sub-set-all
-sub-set-all c = search needs
+sub-set-all c = omega (arith, c .scratch-words .ensures)
 
 part-set-all-start : tie.Need-part-set-all-start
-part-set-all-start c = search needs
+part-set-all-start c = omega (arith, c .scratch-words .ensures)
 
 part-set-all-end : tie.Need-part-set-all-end
 part-set-all-end c =
@@ -63,7 +76,7 @@ part-set-all-end c =
     omega (arith, c .scratch-words .ensures, begun k .pre .lent .scratch-from, k .lines-done .kept .1 .1 .1 .1 .1 .1 .1 .1 .0)
 
 set-all-requires : tie.Need-set-all-requires
-set-all-requires c κs = search needs
+set-all-requires c κs = tt
 
 -- what the call has done
 after : (c : tie.After-struct-known5) → let z = zeroed c in
@@ -92,16 +105,16 @@ cast-next c =
     omega (arith, next-in (after c) (A .line-in), A .sides)
 
 sub-t27 : tie.Need-sub-t27
-sub-t27 c = search needs
+sub-t27 c = omega (arith, after (c .before) .next-is)
 
 same-length : tie.Need-same-length
-same-length c = search needs
+same-length c = after (c .before) .distances-beyond .as-long
 
 same-length-2 : tie.Need-same-length-2
-same-length-2 c = search needs
+same-length-2 c = after (c .before) .sites-beyond .as-long
 
 same-length-3 : tie.Need-same-length-3
-same-length-3 c = search needs
+same-length-3 c = after (c .before) .scratch-beyond .as-long
 
 returns : tie.Need-returns
 returns c = (refl, after (c .before))

@@ -1,5 +1,5 @@
 -- `slices::lines_done` meets its contract: the columns, and where they go through, the rows. Assumes nothing.
-use mathlib.Core.Path.{_≡_, refl, subst, subst₂}
+use mathlib.Core.Path.{_≡_, refl, _∙_, subst, subst₂}
 use Prim.Native.Nat.{_+_, _-_, _<_, min}
 use native.Mathlib.Omega.{arith}
 use Rattle.rules.specs.Calls.{buffers}
@@ -7,7 +7,6 @@ use Rattle.columns.specs.Bands.{Swept}
 use Rattle.slice_lines.specs.Lines.{FirstBad}
 use Rattle.slices.specs.Work.{LinesDone}
 use Rattle.slices.proofs.After.{columns-left, rows-left}
-use borrow.Author.Needs.{needs}
 use Rattle.slices.proofs.lines_done.Statement.{statement}
 use Rattle.slices.proofs.lines_done.Tie as tie
 
@@ -38,16 +37,24 @@ columns c =
     (second .lesser2 .ensures) (second .before .lesser .ensures) (r .ensures)
 
 lesser-requires : tie.Need-lesser-requires
-lesser-requires c κs = search needs
+lesser-requires c κs = tt
 
 lesser-requires-2 : tie.Need-lesser-requires-2
-lesser-requires-2 c κs = search needs
+lesser-requires-2 c κs = tt
 
 column-lines-requires : tie.Need-column-lines-requires
-column-lines-requires c κs = search needs
+column-lines-requires c κs =
+    let second = c .before in
+    let p = second .before .before .before .before .before .before .pre in
+    let from = second .lesser2 .ensures in
+    let to = second .before .lesser .ensures in (
+      record { sides = p .1; ordered = omega (arith, from, to, p .2); columns-in = omega (arith, to) },
+      p .4,
+      omega (arith, p .7),
+    )
 
 same-length : tie.Need-same-length
-same-length c = search needs
+same-length c = columns (swept (c .before)) .1 .as-long
 
 returns : tie.Need-returns
 returns c =
@@ -60,7 +67,7 @@ returns c =
     (λ _. (early, refl))
 
 same-length-2 : tie.Need-same-length-2
-same-length-2 c = search needs
+same-length-2 c = columns (swept (c .before .before)) .1 .as-long
 
 returns-2 : tie.Need-returns-2
 returns-2 c =
@@ -76,16 +83,20 @@ returns-2 c =
     (λ l. absurd (omega arith)))
 
 rows-done-requires : tie.Need-rows-done-requires
-rows-done-requires c κs = search needs
+rows-done-requires c κs =
+    let k = swept (c .before .before .before .before .before) in
+    let p = begun k .pre in
+    (p .0, p .1, p .2, p .3, p .5, p .6, omega (arith, p .7, columns k .1 .as-long))
 
 same-length-3 : tie.Need-same-length-3
-same-length-3 c = search needs
+same-length-3 c = lined c .rows-done .kept .1 .1 .1 .1 .1 .0
 
 same-length-4 : tie.Need-same-length-4
-same-length-4 c = search needs
+same-length-4 c = lined c .rows-done .kept .1 .1 .1 .1 .1 .1 .0
 
 same-length-5 : tie.Need-same-length-5
-same-length-5 c = search needs
+same-length-5 c =
+    lined c .rows-done .kept .1 .1 .1 .1 .1 .1 .1 .0 ∙ columns (swept (gone-on (lined c) .before .before)) .1 .as-long
 
 returns-3 : tie.Need-returns-3
 returns-3 c =

@@ -15,25 +15,30 @@ abbrev lined : tie.After-struct-known → tie.After-row-lines
 lined c = c .before .before .before .before .before .before .before
 
 rows-before-requires : tie.Need-rows-before-requires
-rows-before-requires c κs = search needs
+rows-before-requires c κs = tt
 
 rows-before-requires-2 : tie.Need-rows-before-requires-2
-rows-before-requires-2 c κs = search needs
+rows-before-requires-2 c κs = tt
 
 row-lines-requires : tie.Need-row-lines-requires
-row-lines-requires c κs = search needs
+row-lines-requires c κs =
+    let second = c .before .before .before in
+    let p = second .before .before .before .before .before .pre in
+    let from = second .before .rows-before .ensures in
+    let to = second .rows-before2 .ensures in
+    (p .0, p .1, omega (arith, from, to, p .2), omega (arith, to, p .3), p .4, p .5, p .6)
 
 add-t18 : tie.Need-add-t18
 add-t18 c = search needs
 
 same-length : tie.Need-same-length
-same-length c = search needs
+same-length c = lined c .row-lines .kept .1 .1 .1 .1 .1 .0
 
 same-length-2 : tie.Need-same-length-2
-same-length-2 c = search needs
+same-length-2 c = lined c .row-lines .kept .1 .1 .1 .1 .1 .1 .0
 
 same-length-3 : tie.Need-same-length-3
-same-length-3 c = search needs
+same-length-3 c = lined c .row-lines .kept .1 .1 .1 .1 .1 .1 .1 .0
 
 returns : tie.Need-returns
 returns c =

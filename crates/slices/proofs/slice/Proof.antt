@@ -2,12 +2,11 @@
 use mathlib.Core.Path.{refl, sym, _∙_}
 use Rattle.rules.proofs.Calls.{refused-call}
 use Rattle.rules.proofs.SliceRows.{slice-accepted}
-use borrow.Author.Needs.{needs}
 use Rattle.slices.proofs.slice.Statement.{statement}
 use Rattle.slices.proofs.slice.Tie as tie
 
 slice-refusal-requires : tie.Need-slice-refusal-requires
-slice-refusal-requires c κs = search needs
+slice-refusal-requires c κs = tt
 
 returns : tie.Need-returns
 returns c = refused-call (c .before .slice-refusal .ensures) (c .if1 .taken) (refl, refl)
@@ -18,13 +17,13 @@ accepted-slice-requires c κs =
     slice-accepted _ _ _ _ _ _ _ _ (sym (t .before .slice-refusal .ensures) ∙ t .if1 .left)
 
 same-length : tie.Need-same-length
-same-length c = search needs
+same-length c = c .before .before .before .before .before .before .accepted-slice .kept .1 .1 .0
 
 same-length-2 : tie.Need-same-length-2
-same-length-2 c = search needs
+same-length-2 c = c .before .before .before .before .before .before .accepted-slice .kept .1 .1 .1 .0
 
 same-length-3 : tie.Need-same-length-3
-same-length-3 c = search needs
+same-length-3 c = c .before .before .before .before .before .before .accepted-slice .kept .1 .1 .1 .1 .0
 
 returns-2 : tie.Need-returns-2
 returns-2 c =

@@ -2,7 +2,6 @@
 -- the first that stops are swept. Assumes nothing.
 use native.Mathlib.Omega.{arith}
 use Rattle.slice_lines.proofs.Testing.{no-column, column-end, swept-none}
-use borrow.Author.Needs.{needs}
 use Rattle.slice_lines.proofs.band.column_lines.Statement.{statement}
 use Rattle.slice_lines.proofs.band.column_lines.Tie as tie
 
@@ -14,7 +13,7 @@ returns : tie.Need-returns
 returns c = (column-end no-column (c .if1 .taken), swept-none (c .if1 .taken))
 
 first-bad-requires : tie.Need-first-bad-requires
-first-bad-requires c κs = search needs
+first-bad-requires c κs = let p = c .before .before .before .pre in (p .0, p .1)
 
 sweep-requires : tie.Need-sweep-requires
 sweep-requires c κs =
@@ -24,7 +23,7 @@ sweep-requires c κs =
     (record { sides = p .0 .sides; ordered = omega (arith, F); columns-in = omega (arith, F, p .0) }, p .1, p .2)
 
 same-length : tie.Need-same-length
-same-length c = search needs
+same-length c = c .before .before .sweep .kept .1 .1 .1 .1 .1 .0
 
 returns-2 : tie.Need-returns-2
 returns-2 c =

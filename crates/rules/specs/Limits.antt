@@ -1,6 +1,6 @@
--- The limits of documents 01 and 02, each in one place, and two of our own at the end. `src/lib.rt` has a constant for each but the
--- last, and `limits` there is proved to hand out these very numbers. A proof names the limit and not its digits, but for
--- the knob: 4,096 is 2^12, and its powers of two are counted as 13. Assumes nothing.
+-- The limits of documents 01 and 02, each in one place, and two of our own at the end. `src/lib.rt` has a constant for
+-- each but the last, and `limits` there is proved to hand out these very numbers. A proof names the limit and not its
+-- digits, but for the knob: 4,096 is 2^12, and its powers of two are counted as 13. Assumes nothing.
 use mathlib.Core.Path.{_≡_}
 use Prim.Native.Nat.{ℕ, _*_, _^_}
 use Rattle.rules.specs.declared.LimitTable.{LimitTable}

@@ -1,7 +1,7 @@
--- What the lines of a call leave, put together. The columns are swept as one band; a call that goes on to the rows has swept
--- all columns from its line on, so a row line finds the words of these columns, and of the columns before its line those that
--- stood there. The row lines change no cell's word, nor does setting the words after them to zero: so what was so of the
--- words when a line was looked at is so at the end. Assumes nothing.
+-- What the lines of a call leave, put together. The columns are swept as one band; a call that goes on to the rows has
+-- swept all columns from its line on, so a row line finds the words of these columns, and of the columns before its line
+-- those that stood there. The row lines change no cell's word, nor does setting the words after them to zero: so what was
+-- so of the words when a line was looked at is so at the end. Assumes nothing.
 use mathlib.Core.Path.{_≡_, refl, sym, _∙_, ap, subst}
 use mathlib.Core.Logic.{by-cases}
 use mathlib.Core.List.{List}

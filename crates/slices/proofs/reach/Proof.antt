@@ -1,4 +1,5 @@
--- `slices::reach` meets its contract: from the line on, the lesser of the budget and the lines that are left. Assumes nothing.
+-- `slices::reach` meets its contract: from the line on, the lesser of the budget and the lines that are left. Assumes
+-- nothing.
 use mathlib.Core.Path.{ap}
 use Prim.Native.Nat.{_+_}
 use borrow.Author.Needs.{needs}

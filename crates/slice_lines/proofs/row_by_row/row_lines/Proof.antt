@@ -1,5 +1,5 @@
--- `slice_lines::row_by_row::row_lines` meets its contract. The loop's invariant: the row lines before y are done, and `at` is
--- the number of row y's first cell. The measure is the number of rows left. Assumes nothing.
+-- `slice_lines::row_by_row::row_lines` meets its contract. The loop's invariant: the row lines before y are done, and
+-- `at` is the number of row y's first cell. The measure is the number of rows left. Assumes nothing.
 use mathlib.Core.Path.{_≡_, refl, sym, _∙_, subst}
 use Prim.Native.Nat.{_+_, _-_, _*_, _≤_}
 use native.Mathlib.Nat.{mul-le-mul-right}

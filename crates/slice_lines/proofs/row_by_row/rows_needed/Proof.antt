@@ -1,5 +1,5 @@
--- `slice_lines::row_by_row::rows_needed` meets its contract: the mark asks for no row, and another word for one more than its
--- number, which a word that is not the greatest can hold. Assumes nothing.
+-- `slice_lines::row_by_row::rows_needed` meets its contract: the mark asks for no row, and another word for one more than
+-- its number, which a word that is not the greatest can hold. Assumes nothing.
 use mathlib.Core.Path.{sym}
 use Rattle.slice_lines.proofs.Testing.{needs-none, needs-more}
 use borrow.Author.Needs.{needs}

@@ -20,7 +20,7 @@ use Rattle.rules.specs.Refusals.{scratch-words}
 use Rattle.rules.proofs.Board.{cell-in, row-ends}
 use Rattle.rules.proofs.Columns.{row-word-same, cost-step}
 use Rattle.rules.proofs.Measures.{cost-parts}
-use Rattle.rules.proofs.Parts.{part-length, put-before, put-inside}
+use Rattle.rules.proofs.RowParts.{row-part-long, put-here, put-elsewhere}
 use Rattle.gauge.specs.declared.Gauge.{Gauge}
 use Rattle.gauge.proofs.Places.{apart-below}
 use Rattle.rows.specs.Row.{Believed, LineRead, LineOut}
@@ -138,24 +138,6 @@ row-part w y l = take (y * w + w - y * w) (drop (y * w) l)
 abbrev pub row-put : ℕ → ℕ → List ℕ → List ℕ → List ℕ
 row-put w y l part = putMid (y * w) (y * w + w - y * w) l part
 
--- the part that is lent for a row is as long as the board is wide
-pub row-part-long : (w : ℕ) {h y : ℕ} (l : List ℕ) → y < h → length l ≡ w * h → length (row-part w y l) ≡ w
-row-part-long w {h} {y} l y-in long =
-    part-length {a = y * w} {e = y * w + w} l (omega arith) (omega (arith, row-ends w refl y-in)) ∙ omega arith
-
--- what stands in the row is what came back
-row-inside : (w : ℕ) {h y : ℕ} (l part : List ℕ) → y < h → length l ≡ w * h → length part ≡ w → (x : ℕ) → x < w
-    → getD (row-put w y l part) (cell w x y) 0 ≡ getD part x 0
-row-inside w {h} {y} l part y-in long short x x-in =
-    put-inside {a = y * w} (y * w + w - y * w) l part (omega (arith, row-ends w refl y-in)) (omega arith)
-
--- what stands above it stays
-row-above : (w : ℕ) {h y : ℕ} (l part : List ℕ) → y < h → length l ≡ w * h → (x j : ℕ) → x < w → j < y
-    → getD (row-put w y l part) (cell w x j) 0 ≡ getD l (cell w x j) 0
-row-above w {h} {y} l part y-in long x j x-in j-in =
-    put-before {a = y * w} (y * w + w - y * w) l part (omega (arith, row-ends w refl y-in))
-    (omega (arith, row-ends w refl j-in))
-
 -- one row more
 pub crossing-more : {kind w h y : ℕ} {costs values scratch distances sites values′ scratch′ : List ℕ}
     (word-part site-part : List ℕ)
@@ -167,8 +149,10 @@ pub crossing-more : {kind w h y : ℕ} {costs values scratch distances sites val
 crossing-more {kind} {w} {h} {y} {costs} {scratch = scratch} {distances = distances} {sites = sites}
     {scratch′ = scratch′} word-part site-part X y-in M v s d n =
     let M′ : RowMore kind w h y costs scratch scratch′ word-part site-part = rw (X .values-long) at M in
-    let d′ = d ∙ row-part-long w distances y-in (X .distances-long) in
-    let n′ = n ∙ row-part-long w sites y-in (X .sites-long) in
+    let d-room : w * h ≤ length distances = omega (arith, X .distances-long) in
+    let n-room : w * h ≤ length sites = omega (arith, X .sites-long) in
+    let d′ = d ∙ row-part-long distances refl y-in d-room in
+    let n′ = n ∙ row-part-long sites refl y-in n-room in
     record {
       values-long = v ∙ X .values-long;
       scratch-long = s ∙ X .scratch-long;
@@ -178,9 +162,11 @@ crossing-more {kind} {w} {h} {y} {costs} {scratch = scratch} {distances = distan
       made =
           below-more (λ j. RowAfter kind w h costs j (λ x. getD (row-put w y distances word-part) (cell w x j) 0)
           (λ x. getD (row-put w y sites site-part) (cell w x j) 0)) y
-          (λ j l. row-same (X .made j l) (λ x m. row-above w distances word-part y-in (X .distances-long) x j m l)
-          (λ x m. row-above w sites site-part y-in (X .sites-long) x j m l))
-          (row-same (M′ .made) (row-inside w distances word-part y-in (X .distances-long) d′)
-          (row-inside w sites site-part y-in (X .sites-long) n′));
+          (λ j l.
+          let above : j ≢ y = omega arith in
+          row-same (X .made j l) (λ x m. put-elsewhere distances word-part refl y-in d-room d′ m above)
+          (λ x m. put-elsewhere sites site-part refl y-in n-room n′ m above))
+          (row-same (M′ .made) (λ x m. put-here distances word-part refl y-in d-room d′ m)
+          (λ x m. put-here sites site-part refl y-in n-room n′ m));
       within = omega arith;
     }

@@ -142,14 +142,13 @@ row-word-exists {w} combine words value x i l a =
     )
     go (inr none) = absurd (none i l a)
 
--- what a row line makes depends on the words of its columns, and on the values of those that are not marked
-pub row-word-same : {w : ℕ} {combine : ℕ → ℕ → ℕ} {words words′ value value′ : ℕ → ℕ} {x d site : ℕ} →
-    ((i : ℕ) → i < w → words i ≡ words′ i) → ((i : ℕ) → i < w → words i ≢ mark → value i ≡ value′ i) →
-    RowWord w combine words value x d site → RowWord w combine words′ value′ x d site
-row-word-same {w} {combine} {words} {words′} {value} {value′} {x} same held r =
+-- what a row line makes depends on the words of its columns, and on what those that are not marked combine to
+pub row-word-by : {w : ℕ} {combine combine′ : ℕ → ℕ → ℕ} {words words′ value value′ : ℕ → ℕ} {x d site : ℕ} →
+    ((i : ℕ) → i < w → words i ≡ words′ i) →
+    ((i : ℕ) → i < w → words i ≢ mark → combine (away x i) (value i) ≡ combine′ (away x i) (value′ i)) →
+    RowWord w combine words value x d site → RowWord w combine′ words′ value′ x d site
+row-word-by {w} {words = words} {words′ = words′} same at r =
     let named : (i : ℕ) → i < w → words′ i ≢ mark → words i ≢ mark = λ i l n e. n (sym (same i l) ∙ e) in
-    let at : (i : ℕ) → i < w → words i ≢ mark → combine (away x i) (value i) ≡ combine (away x i) (value′ i) =
-    λ i l n. ap (combine (away x i)) (held i l n) in
     record {
       i = r .i;
       column-in = r .column-in;
@@ -159,6 +158,13 @@ row-word-same {w} {combine} {words} {words′} {value} {value′} {x} same held 
       least = λ i l n. omega (arith, at i l (named i l n), r .least i l (named i l n));
       least-column = λ i l n e. r .least-column i l (named i l n) (at i l (named i l n) ∙ e);
     }
+
+-- so by one measure it depends on the words, and on the values of the columns that are not marked
+pub row-word-same : {w : ℕ} {combine : ℕ → ℕ → ℕ} {words words′ value value′ : ℕ → ℕ} {x d site : ℕ} →
+    ((i : ℕ) → i < w → words i ≡ words′ i) → ((i : ℕ) → i < w → words i ≢ mark → value i ≡ value′ i) →
+    RowWord w combine words value x d site → RowWord w combine words′ value′ x d site
+row-word-same {combine = combine} {x = x} same held r =
+    row-word-by same (λ i l n. ap (combine (away x i)) (held i l n)) r
 
 -- The step from columns to rows, over the features, their words as seen from one cell of the row (in column x) and
 -- their ranks in their columns.

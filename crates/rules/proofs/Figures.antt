@@ -42,7 +42,7 @@ use Rattle.rules.specs.Figures.{Figure, picture-call, cost-call, lane-ca
 use Rattle.rules.specs.Figures.{clear-call, changeover-call, bench-call, Slice, budgets, left, FigureHolds, AllHold}
 use Rattle.rules.specs.Figures.{figures}
 use Rattle.rules.proofs.Calls.{refused-call, made-call}
-use Rattle.rules.proofs.LaneTest.{Test, never, so, both, given, below, if-at-most, same, if-same}
+use Rattle.rules.proofs.LaneTest.{Test, never, so, both, given, below, at-most, if-at-most, same, if-same}
 use Rattle.rules.proofs.Samples.{least, least-means, bored, bored-tests, unmarked, unmarked-tests}
 use Rattle.rules.proofs.Samples.{map-site, map-site-means, cost-map-site, cost-map-site-means}
 use Rattle.rules.proofs.Samples.{changes, changes-means, Floods, floods, goes, goes-means}
@@ -51,10 +51,6 @@ use Rattle.rules.proofs.Edges.{fits, k-of, opens, opens-means, bad, bad
 -- nothing is to be tested
 abbrev nothing : Test (Unit {0})
 nothing = record { passes = true; sound = λ t. t }
-
--- one number is at most another
-abbrev up-to : (a b : ℕ) → Test (a ≤ b)
-up-to a b = record { passes = leb a b; sound = leb→le a b }
 
 -- two numbers differ
 abbrev differ : (a b : ℕ) → Test (a ≢ b)
@@ -186,8 +182,8 @@ module _ (w : ℕ) (picture : List ℕ) (x : ℕ) {h : ℕ} {rank : ℕ → ℕ}
   -- j is the nearest bored row of the column x
   abbrev nearest-row : (j : ℕ) → Test (Nearest h (Bored w picture x) rank j)
   nearest-row j =
-      so (both (both (up-to (suc j) h) (same _ _)) (both (below h (λ j′. if-same _ _ (up-to (rank j) (rank j′))))
-      (below h (λ j′. if-same _ _ (if-same (rank j′) (rank j) (up-to j j′))))))
+      so (both (both (at-most (suc j) h) (same _ _)) (both (below h (λ j′. if-same _ _ (at-most (rank j) (rank j′))))
+      (below h (λ j′. if-same _ _ (if-same (rank j′) (rank j) (at-most j j′))))))
       (λ t. record { row-in = t .0 .0; feature = t .0 .1; nearest = t .1 .0; upper = t .1 .1 })
 
   -- the word is that of the column
@@ -201,9 +197,9 @@ abbrev row-word : {w : ℕ} {combine : ℕ → ℕ → ℕ} {words value : ℕ �
     → Test (RowWord w combine words value x d site)
 row-word {w} {combine} {words} {value} {x} d site =
     let i : ℕ = column w site in
-    so (both (both (up-to (suc i) w) (differ (words i) mark)) (both (both (same _ _) (same _ _))
-    (both (below w (λ i′. if-differ (words i′) mark (up-to d _)))
-    (below w (λ i′. if-differ (words i′) mark (if-same _ d (up-to i i′)))))))
+    so (both (both (at-most (suc i) w) (differ (words i) mark)) (both (both (same _ _) (same _ _))
+    (both (below w (λ i′. if-differ (words i′) mark (at-most d _)))
+    (below w (λ i′. if-differ (words i′) mark (if-same _ d (at-most i i′)))))))
     (λ t. record {
       i = i;
       column-in = t .0 .0;
@@ -218,7 +214,7 @@ row-word {w} {combine} {words} {value} {x} d site =
 abbrev slice-after : {w h kind line budget : ℕ} {picture : List ℕ} {before : Buffers} {number finished next : ℕ}
     {after : Buffers} → Test (SliceAfter w h kind line budget picture before number finished next after)
 slice-after {w} {h} {line = line} {budget} {picture} {number = number} {finished} {next} =
-    so (both (both (both (up-to finished (allowed w h line budget)) (same _ _))
+    so (both (both (both (at-most finished (allowed w h line budget)) (same _ _))
     (both (below next (λ k. if-at-most line k (same _ _)))
     (both (if-same finished (allowed w h line budget) (same _ _))
     (if-at-most (suc finished) (allowed w h line budget) (both (same _ _) (differ number 0))))))

@@ -65,7 +65,7 @@ below n t = record {
 }
 
 -- one number is at most another
-abbrev at-most : (a b : ℕ) → Test (a ≤ b)
+abbrev pub at-most : (a b : ℕ) → Test (a ≤ b)
 at-most a b = record { passes = leb a b; sound = leb→le a b }
 
 -- a condition holds if one number is at most another

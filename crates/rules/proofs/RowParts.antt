@@ -16,9 +16,9 @@ use Rattle.rules.proofs.Board.{row-ends}
 use Rattle.rules.proofs.Parts.{part-length, put-before, put-inside, beyond-more}
 
 -- a row that is lent, which begins at `at`, has a word for each column
-pub row-part : {w h y at : ℕ} (list : List ℕ) → at ≡ y * w → y < h → w * h ≤ length list
+pub row-part-long : {w h y at : ℕ} (list : List ℕ) → at ≡ y * w → y < h → w * h ≤ length list
     → length (midOf at (at + w - at) list) ≡ w
-row-part {w} {at = at} list at-is in-column room =
+row-part-long {w} {at = at} list at-is in-column room =
     let inside = row-ends w at-is in-column in
     part-length {a = at} {e = at + w} list (omega arith) (omega arith) ∙ omega arith
 
@@ -42,7 +42,7 @@ module _ {w h y at : ℕ} (list part : List ℕ) (at-is : at ≡ y * w) (in-colu
   put-past =
       record {
         as-long =
-            same-len-mid at (at + w - at) list part (long ∙ sym (row-part list at-is in-column room));
+            same-len-mid at (at + w - at) list part (long ∙ sym (row-part-long list at-is in-column room));
         untouched = drop-put at (at + w) list part (omega arith) inside (long ∙ omega arith);
       }
 

@@ -42,37 +42,22 @@ use Rattle.rules.specs.Slices.{SliceCall, Chain}
 use Rattle.rules.proofs.Parts.{beyond-both}
 use Rattle.rules.proofs.Board.{cell-in}
 use Rattle.rules.proofs.TieRule.{least-unique, map-site-unique}
-use Rattle.rules.proofs.Columns.{parts, column-word-unique, row-word-unique, row-word-same, picture-step}
+use Rattle.rules.proofs.Columns.{parts, column-word-unique, row-word-unique, row-word-by, row-word-same, picture-step}
 use Rattle.rules.proofs.Refusals.{sides-good, kind-good, weights-good, buffers-good, bytes-good, bore-good}
-use Rattle.rules.proofs.SliceRows.{slice-accepted, slice-parts, column-0, column-passes, row-0, row-passes, column-line-number, row-line-number}
-use Rattle.rules.proofs.SliceRows.{line-number-same}
+use Rattle.rules.proofs.SliceRows.{slice-accepted, slice-parts, column-0, column-passes, row-0, row-passes}
+use Rattle.rules.proofs.SliceRows.{column-line-number, row-line-number, line-number-same}
 use Rattle.rules.proofs.Pinned.{agreed, settled, each-cell, lists-pinned}
-
--- what a row line makes of its words depends on what the columns that are not marked combine to
-row-word-combined : {w : ℕ} {combine combine′ : ℕ → ℕ → ℕ} {words value value′ : ℕ → ℕ} {x d site : ℕ}
-    → ((i : ℕ) → i < w → words i ≢ mark → combine (away x i) (value i) ≡ combine′ (away x i) (value′ i))
-    → RowWord w combine words value x d site → RowWord w combine′ words value′ x d site
-row-word-combined same r =
-    record {
-      i = r .i;
-      column-in = r .column-in;
-      unmarked = r .unmarked;
-      word-is = r .word-is ∙ same (r .i) (r .column-in) (r .unmarked);
-      site-is = r .site-is;
-      least = λ i l n. omega (arith, same i l n, r .least i l n);
-      least-column = λ i l n e. r .least-column i l n (same i l n ∙ e);
-    }
 
 module _ {kind w x d site : ℕ} {words : ℕ → ℕ} (y : ℕ) (p : HasParts kind) where
   -- a row line by the parts of a kind is one by its distances
   pub row-by-parts : RowWord w (measure kind .combine) words (λ i. measure kind .lift (away y (words i))) x d site
       → RowWord w (distance kind 0 0) words (λ i. away y (words i)) x d site
-  row-by-parts r = row-word-combined (λ i l n. sym (parts kind 0 0 (away x i) (away y (words i)) p)) r
+  row-by-parts r = row-word-by (λ i l. refl) (λ i l n. sym (parts kind 0 0 (away x i) (away y (words i)) p)) r
 
   -- and the other way round
   pub row-of-parts : RowWord w (distance kind 0 0) words (λ i. away y (words i)) x d site
       → RowWord w (measure kind .combine) words (λ i. measure kind .lift (away y (words i))) x d site
-  row-of-parts r = row-word-combined (λ i l n. parts kind 0 0 (away x i) (away y (words i)) p) r
+  row-of-parts r = row-word-by (λ i l. refl) (λ i l n. parts kind 0 0 (away x i) (away y (words i)) p) r
 
 -- line k is one of those from `line` up to `next`, or not
 among? : (line next k : ℕ) → Dec (Among line next k)

@@ -5,7 +5,8 @@ use Prim.Native.Nat.{_+_, _-_, _*_, _≤_}
 use native.Mathlib.Omega.{arith}
 use lib.ListN.{length}
 use Rattle.rules.proofs.Board.{row-ends}
-use Rattle.cost_lines.proofs.RowLine.{row-part-long, Crossing, crossing-more}
+use Rattle.rules.proofs.RowParts.{row-part-long}
+use Rattle.cost_lines.proofs.RowLine.{Crossing, crossing-more}
 use Rattle.cost_lines.proofs.row.all_rows.Statement.{statement}
 use Rattle.cost_lines.proofs.row.all_rows.Tie as tie
 
@@ -92,8 +93,8 @@ row-line-requires c κs =
       t,
       i .columns,
       i .scratch-long,
-      row-part-long w (l .before .loop .distances) t (i .distances-long),
-      row-part-long w (l .before .loop .sites) t (i .sites-long),
+      row-part-long (l .before .loop .distances) refl t (omega (arith, i .distances-long)),
+      row-part-long (l .before .loop .sites) refl t (omega (arith, i .sites-long)),
     )
 
 add-y : tie.Need-add-y Inv-loop μ-loop

@@ -8,7 +8,7 @@ use lib.ListN.{length, take, drop}
 use lib.Seq.{length-take-le, length-front}
 use Rattle.rules.specs.Limits.{side-limit}
 use Rattle.rules.proofs.Board.{cells-few, row-ends}
-use Rattle.rules.proofs.Parts.{part-length}
+use Rattle.rules.proofs.RowParts.{row-part-long}
 use Rattle.rows.specs.Row.{Believed, RowMade}
 use Rattle.maps.specs.Rows.{RowsMade}
 use Rattle.maps.proofs.Rows.{rows-none, believed-at, rows-more-at}
@@ -49,10 +49,7 @@ lent-row : (c : tie.In-loop Inv-loop μ-loop) (l l₀ : List ℕ) → let w = at
     let n = w * at-start c .args .h in
     let at = c .before .loop .at in
     n ≤ length l₀ → length l ≡ length l₀ → length (take (at + w - at) (drop at l)) ≡ w
-lent-row c l l₀ room long =
-    let at = c .before .loop .at in
-    let w = at-start c .args .w in
-    part-length {a = at} {e = at + w} l (omega arith) (omega (arith, inside c)) ∙ omega arith
+lent-row c l l₀ room long = row-part-long l (c .before .loop .inv .1) (c .loop-test .taken) (omega arith)
 
 mul-tail : tie.Need-mul-tail Inv-loop μ-loop
 mul-tail c = omega (arith, cells-few (c .before .before .before .pre .1))

@@ -9,7 +9,7 @@ use lib.Seq.{length-take-le, length-front}
 use borrow.Rule.Slice.PartMut.{putMid}
 use Rattle.rules.specs.Limits.{side-limit}
 use Rattle.rules.proofs.Board.{cells-few, row-ends}
-use Rattle.rules.proofs.RowParts.{row-part}
+use Rattle.rules.proofs.RowParts.{row-part-long}
 use Rattle.slice_lines.specs.Lines.{RowPlace, RowOnce, RowsDone}
 use Rattle.slice_lines.proofs.Rows.{rows-none, once-number, rows-stay, rows-more}
 use Rattle.slice_lines.proofs.row_by_row.row_lines.Statement.{statement}
@@ -63,14 +63,14 @@ lent-distances : (c : tie.In-loop Inv-loop μ-loop) → let w = at-start c .args
     let at = c .before .loop .at in
     length (take (at + w - at) (drop at (c .before .loop .distances))) ≡ w
 lent-distances c =
-    row-part (c .before .loop .distances) (place c .at-is) (place c .row-in)
+    row-part-long (c .before .loop .distances) (place c .at-is) (place c .row-in)
     (omega (arith, at-start c .pre .4, c .before .loop .inv .0 .distances-written .beyond .as-long))
 
 lent-sites : (c : tie.In-loop Inv-loop μ-loop) → let w = at-start c .args .w in
     let at = c .before .loop .at in
     length (take (at + w - at) (drop at (c .before .loop .sites))) ≡ w
 lent-sites c =
-    row-part (c .before .loop .sites) (place c .at-is) (place c .row-in)
+    row-part-long (c .before .loop .sites) (place c .at-is) (place c .row-in)
     (omega (arith, at-start c .pre .5, c .before .loop .inv .0 .sites-written .beyond .as-long))
 
 mul-at : tie.Need-mul-at Inv-loop μ-loop

@@ -2,10 +2,11 @@
 // is no higher. The engine along a line goes by the same crossing and never needs one below zero; here that is an answer
 // too.
 use gauge::crossing::last_euclid;
-use gauge::square;
 use rules::COLUMN_LIMIT;
 use rules::ChangeoverAnswer;
 use rules::VALUE_LIMIT;
+use squares::list_of_squares;
+use squares::square;
 ghost use Rattle.rules.specs.Answers.{changeover-number, changeover-at};
 ghost use Rattle.rules.specs.Calls.{ChangeoverCall};
 
@@ -26,10 +27,11 @@ pub fn changeover(i: u32, u: u32, a: u32, b: u32) -> ChangeoverAnswer
     if VALUE_LIMIT < b {
         return ChangeoverAnswer::Refused;
     }
-    let top = square(u as usize) + b as u64;
-    let low = square(i as usize) + a as u64;
+    let squares = list_of_squares();
+    let top = square(&squares, u as usize) + b as u64;
+    let low = square(&squares, i as usize) + a as u64;
     if low <= top {
-        let p = last_euclid(i as usize, u as usize, a as u64, b as u64);
+        let p = last_euclid(&squares, i as usize, u as usize, a as u64, b as u64);
         return ChangeoverAnswer::At(p as i32);
     }
     let d = 2 * (u - i) as u64;

@@ -19,24 +19,25 @@ use Rattle.rules.specs.Tie.{CostMapWord, CostMapSite}
 use Rattle.rules.specs.Refusals.{scratch-words}
 use Rattle.rules.proofs.Board.{cell-in, row-ends}
 use Rattle.rules.proofs.Columns.{row-word-same, cost-step}
-use Rattle.rules.proofs.Measures.{cost-parts}
 use Rattle.rules.proofs.RowParts.{row-part-long, put-here, put-elsewhere}
 use Rattle.gauge.specs.declared.Gauge.{Gauge}
 use Rattle.gauge.proofs.Places.{apart-below}
+use Rattle.gauge.specs.Line.{Known}
 use Rattle.rows.specs.Row.{Believed, LineRead, LineOut}
 use Rattle.rows.proofs.RowLine.{lift-small, words-part, words-length, words-at}
 use Rattle.cost_lines.specs.Lines.{Priced, Ranked, column-value}
 use Rattle.cost_lines.specs.After.{FitAccepted, ColumnsAfter, RowAfter, RowsAfter, RowMore}
 use Rattle.cost_lines.proofs.ColumnLine.{within-limit}
 
-module _ {g : Gauge} {w h y : ℕ} {costs : List ℕ} (scratch : List ℕ) (P : FitAccepted (g .kind) w h costs) (y-in : y < h)
-    (C : ColumnsAfter (g .kind) w h costs scratch w) (room : length scratch ≡ scratch-words w h) where
+module _ {g : Gauge} {w h y : ℕ} {costs squares : List ℕ} (scratch : List ℕ) (known : Known g squares)
+    (P : FitAccepted (g .kind) w h costs) (y-in : y < h) (C : ColumnsAfter (g .kind) w h costs scratch w)
+    (room : length scratch ≡ scratch-words w h) where
   -- what a row line asks of the words
-  pub believed : Believed g (y * w) (w * h) scratch w
+  pub believed : Believed g squares (y * w) (w * h) scratch w
   believed =
       let (i₀, j₀, column-in, row-in, unmarked) = P .unmarked in
       record {
-        parts = cost-parts (P .kind-in);
+        known = known;
         from = P .sides .width-from;
         to = P .sides .width-to;
         before-tail = row-ends w refl y-in;
@@ -89,7 +90,7 @@ module _ {g : Gauge} {w h y : ℕ} {costs : List ℕ} (scratch : List ℕ) (P : 
     ranked i l n = filled i l ∙ rw (ne-eqb (getD scratch (cell w i y) 0) mark n)
 
     -- the values that fill puts are a line that can be read
-    pub line-read : LineRead g (y * w) (w * h) scratch values
+    pub line-read : LineRead g squares (y * w) (w * h) scratch values
     line-read =
         record {
           believed = rw long believed;

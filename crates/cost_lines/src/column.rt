@@ -8,6 +8,7 @@ ghost use Prim.Native.Nat.{ℕ, _*_, _≤_, _<_};
 ghost use mathlib.Core.Path.{_≡_};
 ghost use lib.ListN.{length, getD};
 ghost use Rattle.rules.specs.Refusals.{scratch-words};
+ghost use Rattle.gauge.specs.Line.{Known};
 ghost use Rattle.cost_lines.specs.Lines.{cell-value, Gathered, winner-word, Scattered};
 ghost use Rattle.cost_lines.specs.After.{FitAccepted, ColumnsAfter, ColumnMore};
 
@@ -62,6 +63,7 @@ fn scatter(w: usize, x: usize, values: &[u64], winners: &[u32], words: &mut [u32
 // The column line of column x. The engine works in the scratch words past the cells.
 fn column_line(
     g: Gauge,
+    squares: &[u32],
     w: usize,
     x: usize,
     costs: &[u32],
@@ -69,7 +71,7 @@ fn column_line(
     winners: &mut [u32],
     scratch: &mut [u32],
 )
-    requires { ⌜ FitAccepted (g .kind) w (length (now values)) (now costs) × (x < w)
+    requires { ⌜ Known g (now squares) × FitAccepted (g .kind) w (length (now values)) (now costs) × (x < w)
         × (length (now winners) ≡ length (now values))
         × (length (now scratch) ≡ scratch-words w (length (now values))) ⌝ }
     ensures { λ _. ⌜ ColumnMore (g .kind) w (length (now (values .entry))) x (now (costs .entry))
@@ -79,27 +81,29 @@ fn column_line(
     let tail = w * h;
     let rest = tail + h + h;
     gather(w, x, costs, values);
-    winners_of(g, values, &mut scratch[tail..rest], winners);
+    winners_of(g, squares, values, &mut scratch[tail..rest], winners);
     scatter(w, x, values, winners, scratch);
 }
 
 // Every column, from the left.
 pub fn all_columns(
     g: Gauge,
+    squares: &[u32],
     w: usize,
     costs: &[u32],
     values: &mut [u64],
     winners: &mut [u32],
     scratch: &mut [u32],
 )
-    requires { ⌜ FitAccepted (g .kind) w (length (now values)) (now costs) × (length (now winners) ≡ length (now values))
+    requires { ⌜ Known g (now squares) × FitAccepted (g .kind) w (length (now values)) (now costs)
+        × (length (now winners) ≡ length (now values))
         × (length (now scratch) ≡ scratch-words w (length (now values))) ⌝ }
     ensures { λ _. ⌜ ColumnsAfter (g .kind) w (length (now (values .entry))) (now (costs .entry))
         (now (scratch .exit)) w ⌝ }
 {
     let mut x = 0;
     while x < w {
-        column_line(g, w, x, costs, values, winners, scratch);
+        column_line(g, squares, w, x, costs, values, winners, scratch);
         x += 1;
     }
 }

@@ -7,6 +7,7 @@ ghost use mathlib.Core.Path.{_≡_};
 ghost use lib.ListN.{length};
 ghost use Rattle.rules.specs.Limits.{side-limit};
 ghost use Rattle.rules.specs.Refusals.{scratch-words};
+ghost use Rattle.gauge.specs.Line.{Known};
 ghost use Rattle.cost_lines.specs.After.{FitAccepted, RowsAfter};
 
 mod column;
@@ -16,6 +17,7 @@ mod row;
 // the line that is lent. The columns' winners stand in the distances, which are free until the rows are written.
 pub fn columns_and_rows(
     g: Gauge,
+    squares: &[u32],
     w: usize,
     h: usize,
     costs: &[u32],
@@ -24,10 +26,27 @@ pub fn columns_and_rows(
     sites: &mut [u32],
     scratch: &mut [u32],
 )
-    requires { ⌜ FitAccepted (g .kind) w h (now costs) × (length (now line) ≡ side-limit) × (length (now distances) ≡ w * h)
-        × (length (now sites) ≡ w * h) × (length (now scratch) ≡ scratch-words w h) ⌝ }
+    requires { ⌜ Known g (now squares) × FitAccepted (g .kind) w h (now costs) × (length (now line) ≡ side-limit)
+        × (length (now distances) ≡ w * h) × (length (now sites) ≡ w * h) × (length (now scratch) ≡ scratch-words w h) ⌝ }
     ensures { λ _. ⌜ RowsAfter (g .kind) w h (now (costs .entry)) (now (distances .exit)) (now (sites .exit)) h ⌝ }
 {
-    all_columns(g, w, costs, &mut line[..h], &mut distances[..h], scratch);
-    all_rows(g, h, costs, &mut line[..w], scratch, distances, sites);
+    all_columns(
+        g,
+        squares,
+        w,
+        costs,
+        &mut line[..h],
+        &mut distances[..h],
+        scratch,
+    );
+    all_rows(
+        g,
+        squares,
+        h,
+        costs,
+        &mut line[..w],
+        scratch,
+        distances,
+        sites,
+    );
 }

@@ -5,6 +5,7 @@ use gauge::Gauge;
 use refusals::cost_rows::cost_refusal;
 use rules::SIDE_LIMIT;
 use set_words::set_front;
+use squares::list_of_squares;
 ghost use lib.ListN.{length};
 ghost use Rattle.rules.specs.Tie.{CostMapWord, CostMapSite};
 ghost use Rattle.rules.specs.Accepted.{CostAccepted};
@@ -12,7 +13,7 @@ ghost use Rattle.rules.specs.Calls.{CostCall, MapAfter, buffers};
 
 // The map of a cost picture that has passed the tests.
 fn accepted_map(
-    g: Gauge,
+    kind: u32,
     w: usize,
     h: usize,
     costs: &[u32],
@@ -20,16 +21,18 @@ fn accepted_map(
     sites: &mut [u32],
     scratch: &mut [u32],
 )
-    requires { ⌜ CostAccepted w h (g .kind) (now costs) (length (now distances)) (length (now sites)) (length (now scratch)) ⌝ }
-    ensures { λ _. ⌜ MapAfter w h (CostMapWord (g .kind) w h (now (costs .entry))) (CostMapSite (g .kind) w h (now (costs .entry)))
+    requires { ⌜ CostAccepted w h kind (now costs) (length (now distances)) (length (now sites)) (length (now scratch)) ⌝ }
+    ensures { λ _. ⌜ MapAfter w h (CostMapWord kind w h (now (costs .entry))) (CostMapSite kind w h (now (costs .entry)))
         (buffers (now (distances .entry)) (now (sites .entry)) (now (scratch .entry)))
         (buffers (now (distances .exit)) (now (sites .exit)) (now (scratch .exit))) ⌝ }
 {
+    let squares = list_of_squares();
     let mut line = [0u64; SIDE_LIMIT as usize];
     let n = w * h;
     let all = scratch_words(w, h);
     columns_and_rows(
-        g,
+        Gauge { kind },
+        &squares,
         w,
         h,
         costs,
@@ -67,7 +70,14 @@ pub fn cost_map(
     if refused != 0 {
         return refused;
     }
-    let g = Gauge { kind };
-    accepted_map(g, w as usize, h as usize, costs, distances, sites, scratch);
+    accepted_map(
+        kind,
+        w as usize,
+        h as usize,
+        costs,
+        distances,
+        sites,
+        scratch,
+    );
     0
 }

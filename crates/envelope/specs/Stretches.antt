@@ -16,9 +16,9 @@ starts work k = getD work k 0
 abbrev pub holders : ℕ → List ℕ → ℕ → ℕ
 holders n work k = getD work (n + k) 0
 
--- what the functions of scan 3 are given: a gauge and a line, and work words with room for the line's stretches
-pub record Given (g : Gauge) (values work : List ℕ) : Type 0 where
-  pub gauged : Gauged g values
+-- what the functions of scan 3 are given: a gauge, the squares and a line, and work words with room for the line's stretches
+pub record Given (g : Gauge) (squares values work : List ℕ) : Type 0 where
+  pub gauged : Gauged g squares values
   pub room : length work ≡ length values + length values
 
 -- the place x lies in stretch k

@@ -19,8 +19,8 @@ pub struct Turned {
 }
 
 // Whether stretch k stays when column u comes: u is not strictly lower at its start.
-fn stays(g: Gauge, values: &[u64], work: &[u32], k: usize, u: usize) -> bool
-    requires { ⌜ Given g (now values) (now work) × (u < length (now values)) × (k < length (now values))
+fn stays(g: Gauge, squares: &[u32], values: &[u64], work: &[u32], k: usize, u: usize) -> bool
+    requires { ⌜ Given g (now squares) (now values) (now work) × (u < length (now values)) × (k < length (now values))
         × (starts (now work) k < length (now values)) × (holders (length (now values)) (now work) k < length (now values)) ⌝ }
     ensures { λ r. ⌜ r ≡ leb
         (height-at g (now (values .entry)) (holders (length (now (values .entry))) (now (work .entry)) k) (starts (now (work .entry)) k))
@@ -29,12 +29,12 @@ fn stays(g: Gauge, values: &[u64], work: &[u32], k: usize, u: usize) -> bool
     let n = values.len();
     let start = as_index(work[k]);
     let holder = as_index(work[n + k]);
-    height(g, values, holder, start) <= height(g, values, u, start)
+    height(g, squares, values, holder, start) <= height(g, squares, values, u, start)
 }
 
 // How many of the m stretches are kept when column u comes: those that do not stay are taken off from the right.
-fn keep(g: Gauge, values: &[u64], work: &[u32], m: usize, u: usize) -> usize
-    requires { ⌜ Given g (now values) (now work) × (u < length (now values))
+fn keep(g: Gauge, squares: &[u32], values: &[u64], work: &[u32], m: usize, u: usize) -> usize
+    requires { ⌜ Given g (now squares) (now values) (now work) × (u < length (now values))
         × Stretches (height-at g (now values)) (length (now values)) u m (starts (now work)) (holders (length (now values)) (now work)) ⌝ }
     ensures { λ r. ⌜ Kept (height-at g (now (values .entry))) u m (starts (now (work .entry)))
         (holders (length (now (values .entry))) (now (work .entry))) r ⌝ }
@@ -42,7 +42,7 @@ fn keep(g: Gauge, values: &[u64], work: &[u32], m: usize, u: usize) -> usize
     let mut kept = m;
     while 0 < kept {
         let k = kept - 1;
-        if stays(g, values, work, k, u) {
+        if stays(g, squares, values, work, k, u) {
             return kept;
         }
         kept = k;
@@ -51,8 +51,8 @@ fn keep(g: Gauge, values: &[u64], work: &[u32], m: usize, u: usize) -> usize
 }
 
 // Where column u begins: at the first place if no stretch is kept, else where the last one kept stops holding.
-fn begin(g: Gauge, values: &[u64], work: &[u32], kept: usize, u: usize) -> usize
-    requires { ⌜ Given g (now values) (now work) × (u < length (now values)) × (kept ≤ length (now values))
+fn begin(g: Gauge, squares: &[u32], values: &[u64], work: &[u32], kept: usize, u: usize) -> usize
+    requires { ⌜ Given g (now squares) (now values) (now work) × (u < length (now values)) × (kept ≤ length (now values))
         × Against (height-at g (now values)) u (holders (length (now values)) (now work)) kept ⌝ }
     ensures { λ r. ⌜ Begins (height-at g (now (values .entry))) (length (now (values .entry))) u
         (holders (length (now (values .entry))) (now (work .entry))) kept r ⌝ }
@@ -62,12 +62,12 @@ fn begin(g: Gauge, values: &[u64], work: &[u32], kept: usize, u: usize) -> usize
     }
     let n = values.len();
     let holder = as_index(work[n + (kept - 1)]);
-    place(g, values, holder, u)
+    place(g, squares, values, holder, u)
 }
 
 // One turn of scan 3, with column u.
-fn turn(g: Gauge, values: &[u64], work: &mut [u32], m: usize, u: usize) -> Turned
-    requires { ⌜ Given g (now values) (now work) × (u < length (now values))
+fn turn(g: Gauge, squares: &[u32], values: &[u64], work: &mut [u32], m: usize, u: usize) -> Turned
+    requires { ⌜ Given g (now squares) (now values) (now work) × (u < length (now values))
         × Stretches (height-at g (now values)) (length (now values)) u m (starts (now work)) (holders (length (now values)) (now work)) ⌝ }
     ensures { λ r. ⌜ Turn (height-at g (now (values .entry))) (length (now (values .entry))) u m
         (starts (now (work .entry))) (holders (length (now (values .entry))) (now (work .entry)))
@@ -75,8 +75,8 @@ fn turn(g: Gauge, values: &[u64], work: &mut [u32], m: usize, u: usize) -> Turne
         (starts (now (work .exit))) (holders (length (now (values .entry))) (now (work .exit))) ⌝ }
 {
     let n = values.len();
-    let kept = keep(g, values, work, m, u);
-    let start = begin(g, values, work, kept, u);
+    let kept = keep(g, squares, values, work, m, u);
+    let start = begin(g, squares, values, work, kept, u);
     if n <= start {
         return Turned { kept, count: kept };
     }
@@ -89,8 +89,8 @@ fn turn(g: Gauge, values: &[u64], work: &mut [u32], m: usize, u: usize) -> Turne
 }
 
 // Scan 3: the stretches of the whole line. Answers how many there are.
-fn build(g: Gauge, values: &[u64], work: &mut [u32]) -> usize
-    requires { ⌜ Given g (now values) (now work) ⌝ }
+fn build(g: Gauge, squares: &[u32], values: &[u64], work: &mut [u32]) -> usize
+    requires { ⌜ Given g (now squares) (now values) (now work) ⌝ }
     ensures { λ r. ⌜ Stretches (height-at g (now (values .entry))) (length (now (values .entry))) (length (now (values .entry))) r
         (starts (now (work .exit))) (holders (length (now (values .entry))) (now (work .exit))) ⌝ }
 {
@@ -100,7 +100,7 @@ fn build(g: Gauge, values: &[u64], work: &mut [u32]) -> usize
     let mut m = 1;
     let mut u = 1;
     while u < n {
-        let turned = turn(g, values, work, m, u);
+        let turned = turn(g, squares, values, work, m, u);
         m = turned.count;
         u += 1;
     }
@@ -125,11 +125,11 @@ fn spread(work: &[u32], m: usize, winners: &mut [u32])
 }
 
 // The engine: at each place of the line the least column whose curve is lowest there.
-pub fn winners_of(g: Gauge, values: &[u64], work: &mut [u32], winners: &mut [u32])
-    requires { ⌜ Given g (now values) (now work) × (length (now winners) ≡ length (now values)) ⌝ }
+pub fn winners_of(g: Gauge, squares: &[u32], values: &[u64], work: &mut [u32], winners: &mut [u32])
+    requires { ⌜ Given g (now squares) (now values) (now work) × (length (now winners) ≡ length (now values)) ⌝ }
     ensures { λ _. ⌜ ((x : ℕ) → x < length (now (values .entry))
         → Wins (height-at g (now (values .entry))) (length (now (values .entry))) x (getD (now (winners .exit)) x 0)) ⌝ }
 {
-    let m = build(g, values, work);
+    let m = build(g, squares, values, work);
     spread(work, m, winners);
 }

@@ -8,6 +8,7 @@ use lib.ListN.{getD, length}
 use Rattle.rules.specs.Limits.{side-limit, line-limit}
 use Rattle.rules.specs.Board.{away}
 use Rattle.rules.specs.Measures.{Measure, measure, HasParts}
+use Rattle.squares.specs.List.{Squares}
 use Rattle.gauge.specs.declared.Gauge.{Gauge}
 
 -- the measure that a gauge stands for
@@ -24,9 +25,14 @@ pub record Line (values : List ℕ) : Type 0 where
   pub to : length values ≤ side-limit
   pub values-to : (i : ℕ) → i < length values → getD values i 0 ≤ line-limit
 
--- what a function along a line is given: a gauge whose kind has parts, and the line
-pub record Gauged (g : Gauge) (values : List ℕ) : Type 0 where
+-- what a function that measures is given: a gauge whose kind has parts, and the list of squares
+pub record Known (g : Gauge) (squares : List ℕ) : Type 0 where
   pub parts : HasParts (g .kind)
+  pub listed : Squares squares
+
+-- what a function along a line is given: these, and the line
+pub record Gauged (g : Gauge) (squares values : List ℕ) : Type 0 where
+  pub known : Known g squares
   pub line : Line values
 
 -- of the columns below n, i has the lowest curve at x, and is the least column that has it

@@ -2,13 +2,14 @@
 // holding against one to its right. The engine and the rows ask here and do not go by the kind themselves, so that they
 // are written and proved once for all kinds.
 use crossing::last_euclid;
-ghost use Prim.Native.Nat.{_+_, _*_, _≤_, _<_};
+use squares::square;
+ghost use Prim.Native.Nat.{_+_, _≤_, _<_};
 ghost use mathlib.Core.Path.{_≡_};
 ghost use lib.ListN.{length};
 ghost use Rattle.rules.specs.Limits.{side-limit, line-limit, lift-limit};
 ghost use Rattle.rules.specs.Board.{away};
-ghost use Rattle.rules.specs.Measures.{HasParts, HoldsAt, measure};
-ghost use Rattle.gauge.specs.Line.{measured, Gauged, height-at};
+ghost use Rattle.rules.specs.Measures.{HoldsAt, measure};
+ghost use Rattle.gauge.specs.Line.{measured, Known, Gauged, height-at};
 ghost use Rattle.gauge.specs.Places.{Pair, Last, Place};
 
 pub mod crossing;
@@ -16,15 +17,6 @@ pub mod crossing;
 // The measure of a line: a kind that has parts.
 pub struct Gauge {
     pub kind: u32,
-}
-
-// The square of a whole offset. Every square that the engine and the changeover need comes from here.
-pub fn square(k: usize) -> u64
-    requires { ⌜ k < side-limit ⌝ }
-    ensures { λ r. ⌜ (r ≡ k * k) × (r < side-limit * side-limit) ⌝ }
-{
-    let wide = k as u64;
-    wide * wide
 }
 
 // |x − i|
@@ -35,13 +27,13 @@ pub fn apart(x: usize, i: usize) -> usize
 }
 
 // What the gauge makes of a difference of columns and a column's value.
-fn combined(g: Gauge, dx: usize, v: u64) -> u64
-    requires { ⌜ HasParts (g .kind) × (dx < side-limit) × (v ≤ line-limit) ⌝ }
+fn combined(g: Gauge, squares: &[u32], dx: usize, v: u64) -> u64
+    requires { ⌜ Known g (now squares) × (dx < side-limit) × (v ≤ line-limit) ⌝ }
     ensures { λ r. ⌜ r ≡ measured g .combine dx v ⌝ }
 {
     let kind = g.kind;
     if kind == 0 {
-        return square(dx) + v;
+        return square(squares, dx) + v;
     }
     let d = dx as u64;
     if kind == 1 {
@@ -51,23 +43,23 @@ fn combined(g: Gauge, dx: usize, v: u64) -> u64
 }
 
 // What a difference of rows adds in its column.
-pub fn lifted(g: Gauge, dy: usize) -> u64
-    requires { ⌜ HasParts (g .kind) × (dy < side-limit) ⌝ }
+pub fn lifted(g: Gauge, squares: &[u32], dy: usize) -> u64
+    requires { ⌜ Known g (now squares) × (dy < side-limit) ⌝ }
     ensures { λ r. ⌜ (r ≡ measured g .lift dy) × (r < lift-limit) ⌝ }
 {
     let kind = g.kind;
     if kind == 0 {
-        return square(dy);
+        return square(squares, dy);
     }
     dy as u64
 }
 
 // The height of column i at the place x.
-pub fn height(g: Gauge, values: &[u64], i: usize, x: usize) -> u64
-    requires { ⌜ Gauged g (now values) × (i < length (now values)) × (x < length (now values)) ⌝ }
+pub fn height(g: Gauge, squares: &[u32], values: &[u64], i: usize, x: usize) -> u64
+    requires { ⌜ Gauged g (now squares) (now values) × (i < length (now values)) × (x < length (now values)) ⌝ }
     ensures { λ r. ⌜ r ≡ height-at g (now (values .entry)) i x ⌝ }
 {
-    combined(g, apart(x, i), values[i])
+    combined(g, squares, apart(x, i), values[i])
 }
 
 // The last place that column i holds, for kind 1: half of i + u + b − a, or a place past the
@@ -101,13 +93,13 @@ fn last_chessboard(n: usize, i: usize, u: usize, a: u64, b: u64) -> u64
 }
 
 // The last place that column i holds, by the gauge.
-fn last(g: Gauge, n: usize, i: usize, u: usize, a: u64, b: u64) -> u64
-    requires { ⌜ HasParts (g .kind) × Pair n i u a b × HoldsAt (measured g) i u a b 0 ⌝ }
+fn last(g: Gauge, squares: &[u32], n: usize, i: usize, u: usize, a: u64, b: u64) -> u64
+    requires { ⌜ Known g (now squares) × Pair n i u a b × HoldsAt (measured g) i u a b 0 ⌝ }
     ensures { λ r. ⌜ (r ≤ line-limit + line-limit) × Last (measured g) n i u a b r ⌝ }
 {
     let kind = g.kind;
     if kind == 0 {
-        return last_euclid(i, u, a, b);
+        return last_euclid(squares, i, u, a, b);
     }
     if kind == 1 {
         return last_manhattan(n, i, u, a, b);
@@ -116,13 +108,13 @@ fn last(g: Gauge, n: usize, i: usize, u: usize, a: u64, b: u64) -> u64
 }
 
 // The place where column i, which holds the first place against u, stops holding; the line's length if it never does.
-pub fn place(g: Gauge, values: &[u64], i: usize, u: usize) -> usize
-    requires { ⌜ Gauged g (now values) × (i < u) × (u < length (now values))
+pub fn place(g: Gauge, squares: &[u32], values: &[u64], i: usize, u: usize) -> usize
+    requires { ⌜ Gauged g (now squares) (now values) × (i < u) × (u < length (now values))
         × (height-at g (now values) i 0 ≤ height-at g (now values) u 0) ⌝ }
     ensures { λ r. ⌜ Place (height-at g (now (values .entry))) (length (now (values .entry))) i u r ⌝ }
 {
     let n = values.len();
-    let p = last(g, n, i, u, values[i], values[u]);
+    let p = last(g, squares, n, i, u, values[i], values[u]);
     let end = n as u64;
     if p + 1 < end { (p + 1) as usize } else { n }
 }

@@ -6,6 +6,7 @@ use lines::fill;
 use lines::some_length;
 use plain::wrong_places;
 use rules::MARK;
+use squares::list_of_squares;
 ghost use Prim.Native.Nat.{_+_, _^_, _≤_, _<_};
 ghost use mathlib.Core.Path.{_≡_};
 ghost use lib.ListN.{length};
@@ -41,7 +42,8 @@ fn try_line(
     ensures { λ r. ⌜ r ≤ length (now (values .entry)) ⌝ }
 {
     fill(seed, values);
-    winners_of(Gauge { kind }, values, work, winners);
+    let squares = list_of_squares();
+    winners_of(Gauge { kind }, &squares, values, work, winners);
     wrong_places(kind, values, winners)
 }
 

@@ -11,7 +11,6 @@ use lib.ListN.{length, getD}
 use borrow.Rule.Slice.PartMut.{putMid}
 use Rattle.rules.specs.Limits.{mark}
 use Rattle.rules.specs.Board.{Sides, cell, away}
-use Rattle.rules.specs.Measures.{HasParts}
 use Rattle.rules.specs.Columns.{RowWord}
 use Rattle.rules.specs.Calls.{Beyond}
 use Rattle.rules.proofs.Board.{row-ends}
@@ -19,7 +18,7 @@ use Rattle.rules.proofs.Columns.{row-word-same}
 use Rattle.rules.proofs.Parts.{beyond-more, beyond-both}
 use Rattle.rules.proofs.RowParts.{put-here, put-elsewhere, put-past}
 use Rattle.gauge.specs.declared.Gauge.{Gauge}
-use Rattle.gauge.specs.Line.{measured}
+use Rattle.gauge.specs.Line.{measured, Known}
 use Rattle.rows.specs.Row.{Believed, RowMade}
 use Rattle.maps.specs.Rows.{word-of, Believable, RowsMade}
 
@@ -36,13 +35,13 @@ rows-none scratch d s =
 
 module _ {g : Gauge} {w h : ℕ} {before d s : List ℕ} (sides : Sides w h) where
   -- what the next row line asks
-  pub row-believed : {y : ℕ} {after d′ s′ : List ℕ} → HasParts (g .kind) → Believable w h before → w * h + w + w ≤ length before
-      → y < h → RowsMade g w h y before after d d′ s s′ → Believed g (y * w) (w * h) after w
-  row-believed {y} {after} parts B room l R =
+  pub row-believed : {y : ℕ} {squares after d′ s′ : List ℕ} → Known g squares → Believable w h before
+      → w * h + w + w ≤ length before → y < h → RowsMade g w h y before after d d′ s s′ → Believed g squares (y * w) (w * h) after w
+  row-believed {y} {after = after} known B room l R =
       let same : (i : ℕ) → i < w → getD after (y * w + i) 0 ≡ word-of w before y i =
       λ i h. R .kept (y * w + i) (omega (arith, row-ends w refl l)) in
       record {
-        parts = parts;
+        known = known;
         from = sides .width-from;
         to = sides .width-to;
         before-tail = row-ends w refl l;
@@ -119,11 +118,11 @@ module _ {g : Gauge} {w h : ℕ} {before d s : List ℕ} (sides : Sides w h) whe
         next = omega arith
 
   -- the same with the row's first cell by another name, as the loop has it
-  pub believed-at : {y : ℕ} {after d′ s′ : List ℕ} (at : ℕ) → at ≡ y * w → HasParts (g .kind) → Believable w h before
+  pub believed-at : {y : ℕ} {squares after d′ s′ : List ℕ} (at : ℕ) → at ≡ y * w → Known g squares → Believable w h before
       → w * h + w + w ≤ length before → y < h → RowsMade g w h y before after d d′ s s′
-      → Believed g at (w * h) after w
-  believed-at {y} {after} at e parts B room l R =
-      subst (λ k. Believed g k (w * h) after w) (sym e) (row-believed parts B room l R)
+      → Believed g squares at (w * h) after w
+  believed-at {y} {squares} {after} at e known B room l R =
+      subst (λ k. Believed g squares k (w * h) after w) (sym e) (row-believed known B room l R)
 
   pub rows-more-at : {y : ℕ} {after after′ d′ s′ : List ℕ} (at : ℕ) (drow srow : List ℕ) → at ≡ y * w → y < h
       → w * h ≤ length d → w * h ≤ length s → length drow ≡ w → length srow ≡ w

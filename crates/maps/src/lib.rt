@@ -9,6 +9,7 @@ use refusals::picture_rows::picture_refusal;
 use rules::CHAMFER_KIND;
 use rules::MARK;
 use set_words::set_front;
+use squares::list_of_squares;
 ghost use Prim.Native.Nat.{ℕ};
 ghost use lib.ListN.{length};
 ghost use Rattle.rules.specs.Measures.{HasParts, chamfer-kind};
@@ -35,7 +36,8 @@ pub fn row_map(
         (buffers (now (distances .exit)) (now (sites .exit)) (now (scratch .exit)))) ⌝ }
 {
     sweep(w, h, 0, w, picture, scratch);
-    all_rows(Gauge { kind }, w, h, distances, sites, scratch);
+    let squares = list_of_squares();
+    all_rows(Gauge { kind }, &squares, w, h, distances, sites, scratch);
     set_front(scratch, scratch_words(w, h), 0);
 }
 

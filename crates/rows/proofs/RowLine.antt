@@ -55,7 +55,7 @@ combine-small (suc (suc k)) v h = omega arith
 abbrev pub words-part : ℕ → ℕ → List ℕ → List ℕ
 words-part at w scratch = take (at + w - at) (drop at scratch)
 
-module _ {g : Gauge} {at tail w : ℕ} {scratch : List ℕ} (B : Believed g at tail scratch w) where
+module _ {g : Gauge} {at tail w : ℕ} {squares scratch : List ℕ} (B : Believed g squares at tail scratch w) where
   pub words-length : length (words-part at w scratch) ≡ w
   words-length = part-length {e = at + w} scratch (omega arith) (omega (arith, B .before-tail, B .room)) ∙ omega arith
 
@@ -97,12 +97,12 @@ module _ {g : Gauge} {at tail w : ℕ} {scratch : List ℕ} (B : Believed g at t
         };
       }
 
-module _ {g : Gauge} {at tail : ℕ} {scratch values : List ℕ} (L : LineRead g at tail scratch values) where
+module _ {g : Gauge} {at tail : ℕ} {squares scratch values : List ℕ} (L : LineRead g squares at tail scratch values) where
   -- the values are a line
-  pub gauged : Gauged g values
+  pub gauged : Gauged g squares values
   gauged =
       record {
-        parts = L .believed .parts;
+        known = L .believed .known;
         line = record {
           from = L .believed .from;
           to = L .believed .to;
@@ -127,7 +127,7 @@ module _ {g : Gauge} {at tail : ℕ} {scratch values : List ℕ} (L : LineRead g
   unfolding height-at
   marked-height i x h e =
       subst (λ b. b ≤ height-at g values i x) (L .marked i h e)
-      (lawful (g .kind) (L .believed .parts) .stands (away x i) (getD values i 0))
+      (lawful (g .kind) (L .believed .known .parts) .stands (away x i) (getD values i 0))
 
   -- no marked column wins
   winner-named : {x i : ℕ} → x < length values → Wins (height-at g values) (length values) x i
@@ -187,14 +187,14 @@ module _ {g : Gauge} {at tail : ℕ} {scratch values : List ℕ} (L : LineRead g
           used = tail-used (L .believed) part long;
         }
 
-module _ {g : Gauge} {y at tail : ℕ} {scratch values : List ℕ} (B : Believed g at tail scratch (length values))
-    (row-in : y < side-limit) (F : Filled g y (words-part at (length values) scratch) values) where
+module _ {g : Gauge} {y at tail : ℕ} {squares scratch values : List ℕ}
+    (B : Believed g squares at tail scratch (length values)) (row-in : y < side-limit) (F : Filled g y (words-part at (length values) scratch) values) where
   -- what fill has put for column i
   filled : (i : ℕ) → i < length values → getD values i 0 ≡ value-of g y (getD scratch (at + i) 0)
   filled i h = F .each i (omega (arith, words-length B)) ∙ ap (value-of g y) (words-at B i h)
 
   -- the values that fill puts are a line that can be read
-  pub line-read : LineRead g at tail scratch values
+  pub line-read : LineRead g squares at tail scratch values
   line-read =
       record {
         believed = B;

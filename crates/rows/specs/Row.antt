@@ -9,11 +9,10 @@ use lib.Dec.{eqb}
 use lib.ListN.{length, getD}
 use Rattle.rules.specs.Limits.{side-limit, mark, line-limit}
 use Rattle.rules.specs.Board.{cell, away}
-use Rattle.rules.specs.Measures.{HasParts}
 use Rattle.rules.specs.Columns.{RowWord}
 use Rattle.rules.specs.Calls.{Beyond}
 use Rattle.gauge.specs.declared.Gauge.{Gauge}
-use Rattle.gauge.specs.Line.{measured, height-at}
+use Rattle.gauge.specs.Line.{measured, Known, height-at}
 
 -- a column word that can be believed: a row below h, or the mark
 abbrev pub Named : ℕ → ℕ → Type 0
@@ -50,8 +49,8 @@ pub record Sites (words winners sites : List ℕ) : Type 0 where
 
 -- what is asked of the scratch: the w words of a row from `at` on, each a row or the mark and one of them a row, and 2w
 -- free words from `tail` on
-pub record Believed (g : Gauge) (at tail : ℕ) (scratch : List ℕ) (w : ℕ) : Type 0 where
-  pub parts : HasParts (g .kind)
+pub record Believed (g : Gauge) (squares : List ℕ) (at tail : ℕ) (scratch : List ℕ) (w : ℕ) : Type 0 where
+  pub known : Known g squares
   pub from : 1 ≤ w
   pub to : w ≤ side-limit
   pub before-tail : at + w ≤ tail
@@ -62,8 +61,8 @@ pub record Believed (g : Gauge) (at tail : ℕ) (scratch : List ℕ) (w : ℕ) :
   pub i₀-named : getD scratch (at + i₀) 0 ≢ mark
 
 -- a line filled from such words: a column that names a row has a small value, and a marked one the line limit
-pub record LineRead (g : Gauge) (at tail : ℕ) (scratch values : List ℕ) : Type 0 where
-  pub believed : Believed g at tail scratch (length values)
+pub record LineRead (g : Gauge) (squares : List ℕ) (at tail : ℕ) (scratch values : List ℕ) : Type 0 where
+  pub believed : Believed g squares at tail scratch (length values)
   pub small : (i : ℕ) → i < length values → getD scratch (at + i) 0 ≢ mark → getD values i 0 < 2 ^ 31
   pub marked : (i : ℕ) → i < length values → getD scratch (at + i) 0 ≡ mark → getD values i 0 ≡ line-limit
 

@@ -14,41 +14,41 @@ ghost use mathlib.Core.Path.{_≡_};
 ghost use lib.ListN.{length, getD};
 ghost use Rattle.rules.specs.Limits.{side-limit};
 ghost use Rattle.rules.specs.Board.{cell};
-ghost use Rattle.rules.specs.Measures.{HasParts};
-ghost use Rattle.gauge.specs.Line.{Gauged, height-at};
+ghost use Rattle.gauge.specs.Line.{Known, Gauged, height-at};
 ghost use Rattle.rows.specs.Row.{Named, value-of, Filled, Winners, Heights, Chosen, Sites, Believed, LineRead, LineOut, RowMade};
 
 // What a column word stands for in row y: its difference of rows lifted, or a value above every true one for a column with
 // no feature.
-fn value(g: Gauge, y: usize, word: u32) -> u64
-    requires { ⌜ HasParts (g .kind) × (y < side-limit) × Named side-limit word ⌝ }
+fn value(g: Gauge, squares: &[u32], y: usize, word: u32) -> u64
+    requires { ⌜ Known g (now squares) × (y < side-limit) × Named side-limit word ⌝ }
     ensures { λ r. ⌜ r ≡ value-of g y word ⌝ }
 {
     if word == MARK {
         return LINE_LIMIT;
     }
-    lifted(g, apart(y, as_index(word)))
+    lifted(g, squares, apart(y, as_index(word)))
 }
 
 // Fill for pictures: the values of row y from its words.
-fn fill(g: Gauge, y: usize, words: &[u32], values: &mut [u64])
-    requires { ⌜ HasParts (g .kind) × (y < side-limit) × (length (now values) ≡ length (now words))
+fn fill(g: Gauge, squares: &[u32], y: usize, words: &[u32], values: &mut [u64])
+    requires { ⌜ Known g (now squares) × (y < side-limit) × (length (now values) ≡ length (now words))
         × ((i : ℕ) → i < length (now words) → Named side-limit (getD (now words) i 0)) ⌝ }
     ensures { λ _. ⌜ Filled g y (now (words .entry)) (now (values .exit)) ⌝ }
 {
     let mut i = 0;
     while i < words.len() {
-        values[i] = value(g, y, words[i]);
+        values[i] = value(g, squares, y, words[i]);
         i += 1;
     }
 }
 
 // The map word of place x, whose winner is i.
-fn map_word(g: Gauge, values: &[u64], i: usize, x: usize) -> u32
-    requires { ⌜ Gauged g (now values) × (i < length (now values)) × (x < length (now values)) × (height-at g (now values) i x < 2 ^ 32) ⌝ }
+fn map_word(g: Gauge, squares: &[u32], values: &[u64], i: usize, x: usize) -> u32
+    requires { ⌜ Gauged g (now squares) (now values) × (i < length (now values)) × (x < length (now values))
+        × (height-at g (now values) i x < 2 ^ 32) ⌝ }
     ensures { λ r. ⌜ r ≡ height-at g (now (values .entry)) i x ⌝ }
 {
-    height(g, values, i, x) as u32
+    height(g, squares, values, i, x) as u32
 }
 
 // The number of the cell in column i and the row that the column's word names.
@@ -60,14 +60,20 @@ fn site_word(w: usize, i: usize, word: u32) -> u32
 }
 
 // The map words of a row: the height of each place's winner.
-fn write_distances(g: Gauge, values: &[u64], winners: &[u32], distances: &mut [u32])
-    requires { ⌜ Gauged g (now values) × Winners g (now values) (now winners)
+fn write_distances(
+    g: Gauge,
+    squares: &[u32],
+    values: &[u64],
+    winners: &[u32],
+    distances: &mut [u32],
+)
+    requires { ⌜ Gauged g (now squares) (now values) × Winners g (now values) (now winners)
         × (length (now winners) ≡ length (now values)) × (length (now distances) ≡ length (now values)) ⌝ }
     ensures { λ _. ⌜ Heights g (now (values .entry)) (now (winners .entry)) (now (distances .exit)) ⌝ }
 {
     let mut x = 0;
     while x < winners.len() {
-        distances[x] = map_word(g, values, as_index(winners[x]), x);
+        distances[x] = map_word(g, squares, values, as_index(winners[x]), x);
         x += 1;
     }
 }
@@ -90,6 +96,7 @@ pub fn write_sites(words: &[u32], sites: &mut [u32])
 // and the scratch words from `tail` on are free.
 pub fn line_out(
     g: Gauge,
+    squares: &[u32],
     at: usize,
     tail: usize,
     scratch: &mut [u32],
@@ -97,20 +104,22 @@ pub fn line_out(
     distances: &mut [u32],
     sites: &mut [u32],
 )
-    requires { ⌜ LineRead g at tail (now scratch) (now values) × (length (now distances) ≡ length (now values)) × (length (now sites) ≡ length (now values)) ⌝ }
+    requires { ⌜ LineRead g (now squares) at tail (now scratch) (now values)
+        × (length (now distances) ≡ length (now values)) × (length (now sites) ≡ length (now values)) ⌝ }
     ensures { λ _. ⌜ LineOut g at tail (now (scratch .entry)) (now (values .entry)) (now (scratch .exit)) (now (distances .exit)) (now (sites .exit)) ⌝ }
 {
     let w = values.len();
     let end = at + w;
     let rest = tail + w + w;
-    winners_of(g, values, &mut scratch[tail..rest], sites);
-    write_distances(g, values, sites, distances);
+    winners_of(g, squares, values, &mut scratch[tail..rest], sites);
+    write_distances(g, squares, values, sites, distances);
     write_sites(&scratch[at..end], sites);
 }
 
 // The row line of row y of a picture.
 pub fn row_line(
     g: Gauge,
+    squares: &[u32],
     y: usize,
     at: usize,
     tail: usize,
@@ -119,10 +128,11 @@ pub fn row_line(
     distances: &mut [u32],
     sites: &mut [u32],
 )
-    requires { ⌜ Believed g at tail (now scratch) (length (now values)) × (y < side-limit) × (length (now distances) ≡ length (now values)) × (length (now sites) ≡ length (now values)) ⌝ }
+    requires { ⌜ Believed g (now squares) at tail (now scratch) (length (now values)) × (y < side-limit)
+        × (length (now distances) ≡ length (now values)) × (length (now sites) ≡ length (now values)) ⌝ }
     ensures { λ _. ⌜ RowMade g y at tail (length (now (values .entry))) (now (scratch .entry)) (now (scratch .exit)) (now (distances .exit)) (now (sites .exit)) ⌝ }
 {
     let end = at + values.len();
-    fill(g, y, &scratch[at..end], values);
-    line_out(g, at, tail, scratch, values, distances, sites);
+    fill(g, squares, y, &scratch[at..end], values);
+    line_out(g, squares, at, tail, scratch, values, distances, sites);
 }

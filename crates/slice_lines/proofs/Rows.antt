@@ -21,18 +21,19 @@ use Rattle.rules.proofs.RowParts.{put-here, put-elsewhere, put-beyond}
 use Rattle.rules.proofs.SliceRows.{row-passes, row-number-same}
 use Rattle.rules.proofs.Slices.{row-by-parts}
 use Rattle.gauge.specs.declared.Gauge.{Gauge}
+use Rattle.gauge.specs.Line.{Known}
 use Rattle.rows.specs.Row.{Believed}
 use Rattle.slice_lines.specs.Lines.{RowPlace, RowOnce, RowsWritten, RowsDone}
 
 -- what the row line asks, of a row that can be done
-pub row-believed : {g : Gauge} {w h y at : ℕ} {scratch : List ℕ} → HasParts (g .kind)
-    → RowPlace w h y at (length scratch) → 0 ≡ answer (row-rows w h scratch y) → Believed g at (w * h) scratch w
-row-believed {g} {w} {h} {y} {at} {scratch} parts P can =
+pub row-believed : {g : Gauge} {w h y at : ℕ} {squares scratch : List ℕ} → Known g squares
+    → RowPlace w h y at (length scratch) → 0 ≡ answer (row-rows w h scratch y) → Believed g squares at (w * h) scratch w
+row-believed {w = w} {h} {y} {at} {scratch = scratch} known P can =
     let (named, one) = row-passes w h scratch y (sym can) in
     let (i₀, i₀-in, i₀-named) = one in
     let same : (i : ℕ) → getD scratch (at + i) 0 ≡ word-at w scratch i y = λ i. ap (λ n. getD scratch (n + i) 0) (P .at-is) in
     record {
-      parts = parts;
+      known = known;
       from = P .sides .width-from;
       to = P .sides .width-to;
       before-tail = row-ends w (P .at-is) (P .row-in);
@@ -64,7 +65,7 @@ written-more {w} {h} {from} {y} now part at-is in-column l room long W =
     }
 
 -- no row line is done yet
-pub rows-none : {g : Gauge} {w h from : ℕ} (scratch d s : List ℕ) → RowsDone g w h from from scratch scratch d d s s
+pub rows-none : {kind w h from : ℕ} (scratch d s : List ℕ) → RowsDone kind w h from from scratch scratch d d s s
 rows-none scratch d s =
     record {
       none-stops = λ k a. absurd (omega arith);
@@ -76,7 +77,7 @@ rows-none scratch d s =
     }
 
 module _ {g : Gauge} {w h from y at : ℕ} {before after d d′ s s′ : List ℕ} (parts : HasParts (g .kind))
-    (R : RowsDone g w h from y before after d d′ s s′) (P : RowPlace w h y at (length after)) where
+    (R : RowsDone (g .kind) w h from y before after d d′ s s′) (P : RowPlace w h y at (length after)) where
   -- the row finds its words as they were
   kept : (x : ℕ) → x < w → word-at w after x y ≡ word-at w before x y
   kept x l = R .cells-kept (cell w x y) (cell-in l (P .row-in))
@@ -89,15 +90,16 @@ module _ {g : Gauge} {w h from y at : ℕ} {before after d d′ s s′ : List �
 
     -- where it stops, the rows that are done stay
     pub rows-stay : number ≢ 0 → drow ≡ midOf at (at + w - at) d′ → srow ≡ midOf at (at + w - at) s′
-        → RowsDone g w h from y before after′ d (putMid at (at + w - at) d′ drow′) s (putMid at (at + w - at) s′ srow′)
+        → RowsDone (g .kind) w h from y before after′ d (putMid at (at + w - at) d′ drow′) s
+        (putMid at (at + w - at) s′ srow′)
     rows-stay some d-part s-part =
         let (same, d-same, s-same) = O .stopped some in
         let d-back : putMid at (at + w - at) d′ drow′ ≡ d′ =
         ap (putMid at (at + w - at) d′) (d-same ∙ d-part) ∙ put-same at (at + w - at) d′ in
         let s-back : putMid at (at + w - at) s′ srow′ ≡ s′ =
         ap (putMid at (at + w - at) s′) (s-same ∙ s-part) ∙ put-same at (at + w - at) s′ in
-        subst₂ (λ a b. RowsDone g w h from y before after′ d a s b) (sym d-back) (sym s-back)
-        (subst (λ a. RowsDone g w h from y before a d d′ s s′) (sym same) R)
+        subst₂ (λ a b. RowsDone (g .kind) w h from y before after′ d a s b) (sym d-back) (sym s-back)
+        (subst (λ a. RowsDone (g .kind) w h from y before a d d′ s s′) (sym same) R)
 
     module _ (is : number ≡ 0) (l : from ≤ y) (d-long : w * h ≤ length d) (s-long : w * h ≤ length s)
         (drow-long : length drow′ ≡ w) (srow-long : length srow′ ≡ w) where
@@ -132,7 +134,7 @@ module _ {g : Gauge} {w h from y at : ℕ} {before after d d′ s s′ : List �
           (sym (put-elsewhere s′ srow′ (P .at-is) (P .row-in) s-room srow-long m other)) (R .words x k m a)
 
       -- one row line more
-      pub rows-more : RowsDone g w h from (y + 1) before after′ d d″ s s″
+      pub rows-more : RowsDone (g .kind) w h from (y + 1) before after′ d d″ s s″
       rows-more =
           record {
             none-stops =

@@ -50,19 +50,19 @@ pub record RowsWritten (w h from y : ℕ) (before after : List ℕ) : Type 0 whe
   pub beyond : Beyond (w * h) before after
 
 -- the row lines from..y are done: none of them stops, and each has its map words and sites by the words of the scratch
-pub record RowsDone (g : Gauge) (w h from y : ℕ) (before after d d′ s s′ : List ℕ) : Type 0 where
+pub record RowsDone (kind w h from y : ℕ) (before after d d′ s s′ : List ℕ) : Type 0 where
   pub none-stops : (k : ℕ) → Among from y k → answer (row-rows w h before k) ≡ 0
   pub words : (x k : ℕ) → x < w → Among from y k →
-      BelievedWord (g .kind) w before x k (getD d′ (cell w x k) 0) (getD s′ (cell w x k) 0)
+      BelievedWord kind w before x k (getD d′ (cell w x k) 0) (getD s′ (cell w x k) 0)
   pub cells-kept : (k : ℕ) → k < w * h → getD after k 0 ≡ getD before k 0
   pub scratch-beyond : Beyond (w * h + w + w) before after
   pub distances-written : RowsWritten w h from y d d′
   pub sites-written : RowsWritten w h from y s s′
 
 -- the row lines from..to, up to the first that stops
-pub record RowsEnded (g : Gauge) (w h from to : ℕ) (before after d d′ s s′ : List ℕ) (number y : ℕ) : Type 0 where
+pub record RowsEnded (kind w h from to : ℕ) (before after d d′ s s′ : List ℕ) (number y : ℕ) : Type 0 where
   pub from-in : from ≤ y
   pub to-in : y ≤ to
-  pub done : RowsDone g w h from y before after d d′ s s′
+  pub done : RowsDone kind w h from y before after d d′ s s′
   pub all-done : y ≡ to → number ≡ 0
   pub stopped : y < to → (number ≡ answer (row-rows w h before y)) × (number ≢ 0)

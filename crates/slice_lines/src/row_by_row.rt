@@ -7,7 +7,7 @@ ghost use Prim.Native.Nat.{ℕ, _+_, _*_, _≤_, max};
 ghost use mathlib.Core.Path.{_≡_};
 ghost use lib.ListN.{length};
 ghost use Rattle.rules.specs.Board.{Sides};
-ghost use Rattle.rules.specs.Measures.{HasParts};
+ghost use Rattle.gauge.specs.Line.{Known};
 ghost use Rattle.rules.specs.Refusals.{answer};
 ghost use Rattle.rules.specs.Slices.{row-rows};
 ghost use Rattle.slice_lines.specs.Lines.{rows-needed, MostNamed, RowPlace, RowOnce, RowsEnded};
@@ -63,6 +63,7 @@ fn row_number(w: usize, h: usize, start: usize, words: &[u32]) -> u32
 // The row line of row y, if it can be done: the number at which it stops, or 0.
 fn one_row(
     g: Gauge,
+    squares: &[u32],
     h: usize,
     y: usize,
     at: usize,
@@ -71,7 +72,7 @@ fn one_row(
     distances: &mut [u32],
     sites: &mut [u32],
 ) -> u32
-    requires { ⌜ HasParts (g .kind) × RowPlace (length (now values)) h y at (length (now scratch))
+    requires { ⌜ Known g (now squares) × RowPlace (length (now values)) h y at (length (now scratch))
         × (length (now distances) ≡ length (now values)) × (length (now sites) ≡ length (now values)) ⌝ }
     ensures { λ r. ⌜ RowOnce g (length (now (values .entry))) h y at (now (scratch .entry)) (now (scratch .exit))
         (now (distances .entry)) (now (distances .exit)) (now (sites .entry)) (now (sites .exit)) r ⌝ }
@@ -81,13 +82,14 @@ fn one_row(
     if number != 0 {
         return number;
     }
-    row_line(g, y, at, w * h, scratch, values, distances, sites);
+    row_line(g, squares, y, at, w * h, scratch, values, distances, sites);
     0
 }
 
 // The row lines from..to, up to the first that can't be done.
 pub fn row_lines(
     g: Gauge,
+    squares: &[u32],
     w: usize,
     h: usize,
     from: usize,
@@ -96,30 +98,30 @@ pub fn row_lines(
     sites: &mut [u32],
     scratch: &mut [u32],
 ) -> RowEnd
-    requires { ⌜ HasParts (g .kind) × Sides w h × (from ≤ to) × (to ≤ h) × (w * h ≤ length (now distances))
+    requires { ⌜ Known g (now squares) × Sides w h × (from ≤ to) × (to ≤ h) × (w * h ≤ length (now distances))
         × (w * h ≤ length (now sites)) × (w * h + w + w ≤ length (now scratch)) ⌝ }
-    ensures { λ r. ⌜ RowsEnded g w h from to (now (scratch .entry)) (now (scratch .exit))
+    ensures { λ r. ⌜ RowsEnded (g .kind) w h from to (now (scratch .entry)) (now (scratch .exit))
         (now (distances .entry)) (now (distances .exit)) (now (sites .entry)) (now (sites .exit)) (r .number) (r .row) ⌝ }
 {
     let mut line = [0u64; SIDE_LIMIT as usize];
     let mut at = from * w;
     let mut y = from;
     while y < to {
-        let end = at + w;
         let number = one_row(
             g,
+            squares,
             h,
             y,
             at,
             scratch,
             &mut line[..w],
-            &mut distances[at..end],
-            &mut sites[at..end],
+            &mut distances[at..at + w],
+            &mut sites[at..at + w],
         );
         if number != 0 {
             return RowEnd { number, row: y };
         }
-        at = end;
+        at += w;
         y += 1;
     }
     RowEnd { number: 0, row: y }

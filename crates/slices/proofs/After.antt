@@ -19,7 +19,6 @@ use Rattle.rules.proofs.Board.{cell-in, cell-inj}
 use Rattle.rules.proofs.Columns.{row-word-same}
 use Rattle.rules.proofs.Parts.{put-before, put-inside, part-length, beyond-more, beyond-both}
 use Rattle.rules.proofs.SliceRows.{column-line-number, row-line-number, row-number-same}
-use Rattle.gauge.specs.declared.Gauge.{Gauge}
 use Rattle.columns.specs.Bands.{Swept}
 use Rattle.columns.proofs.Bands.{band-beyond}
 use Rattle.slice_lines.specs.Lines.{FirstBad, RowsEnded}
@@ -98,13 +97,13 @@ module _ {w h line end c : ℕ} {picture before swept : List ℕ} (l : line ≤ 
             }
 
   -- a call that goes on to the rows, after the last column
-  module _ {g : Gauge} {d d′ s s′ after : List ℕ} {number y : ℕ} (far : w < end) (last : min end w ≤ c) (few : end ≤ w + h)
-      (R : RowsEnded g w h (line - w) (end - w) swept after d d′ s s′ number y) where
+  module _ {kind : ℕ} {d d′ s s′ after : List ℕ} {number y : ℕ} (far : w < end) (last : min end w ≤ c) (few : end ≤ w + h)
+      (R : RowsEnded kind w h (line - w) (end - w) swept after d d′ s s′ number y) where
     -- every column is done
     all-columns : c ≡ w
     all-columns = omega (arith, F .to-in)
 
-    pub rows-left : LinesDone w h (g .kind) line end picture (buffers d s before) number (w + y) (buffers d′ s′ after)
+    pub rows-left : LinesDone w h kind line end picture (buffers d s before) number (w + y) (buffers d′ s′ after)
     rows-left = record { from-in = from-in; to-in = to-in; zeroed = zeroed }
       where
         from-in : line ≤ w + y
@@ -137,7 +136,7 @@ module _ {w h line end c : ℕ} {picture before swept : List ℕ} (l : line ≤ 
         early f = (omega arith, omega arith)
 
         zeroed : (budget : ℕ) (scratch : List ℕ) → end ≡ line + allowed w h line budget → TailZeroed w h after scratch
-            → SliceAfter w h (g .kind) line budget picture (buffers d s before) number (w + y - line) (w + y)
+            → SliceAfter w h kind line budget picture (buffers d s before) number (w + y - line) (w + y)
             (buffers d′ s′ scratch)
         zeroed budget scratch e Z =
             record {

@@ -8,6 +8,7 @@ use rules::SliceAnswer;
 use set_words::set_all;
 use slice_lines::band::column_lines;
 use slice_lines::row_by_row::row_lines;
+use squares::list_of_squares;
 ghost use Prim.Native.Nat.{_+_, _-_, _*_, _≤_, min};
 ghost use mathlib.Core.Path.{_≡_};
 ghost use lib.ListN.{length};
@@ -88,7 +89,7 @@ fn reach(w: usize, h: usize, line: usize, budget: usize) -> usize
 
 // The rows among the lines from `line` up to `end`.
 fn rows_done(
-    g: Gauge,
+    kind: u32,
     w: usize,
     h: usize,
     line: usize,
@@ -97,15 +98,26 @@ fn rows_done(
     sites: &mut [u32],
     scratch: &mut [u32],
 ) -> Ended
-    requires { ⌜ HasParts (g .kind) × Sides w h × (line ≤ end) × (end ≤ w + h) × (w * h ≤ length (now distances))
+    requires { ⌜ HasParts kind × Sides w h × (line ≤ end) × (end ≤ w + h) × (w * h ≤ length (now distances))
         × (w * h ≤ length (now sites)) × (w * h + w + w ≤ length (now scratch)) ⌝ }
-    ensures { λ r. ⌜ (w ≤ r .next) × RowsEnded g w h (line - w) (end - w) (now (scratch .entry)) (now (scratch .exit))
+    ensures { λ r. ⌜ (w ≤ r .next) × RowsEnded kind w h (line - w) (end - w) (now (scratch .entry)) (now (scratch .exit))
         (now (distances .entry)) (now (distances .exit)) (now (sites .entry)) (now (sites .exit))
         (r .number) (r .next - w) ⌝ }
 {
     let from = rows_before(line, w);
     let to = rows_before(end, w);
-    let rows = row_lines(g, w, h, from, to, distances, sites, scratch);
+    let squares = list_of_squares();
+    let rows = row_lines(
+        Gauge { kind },
+        &squares,
+        w,
+        h,
+        from,
+        to,
+        distances,
+        sites,
+        scratch,
+    );
     Ended {
         number: rows.number,
         next: w + rows.row,
@@ -114,7 +126,7 @@ fn rows_done(
 
 // The lines from `line` up to `end`: the columns among them, then the rows among them. They end where one can't be done.
 fn lines_done(
-    g: Gauge,
+    kind: u32,
     w: usize,
     h: usize,
     line: usize,
@@ -124,9 +136,9 @@ fn lines_done(
     sites: &mut [u32],
     scratch: &mut [u32],
 ) -> Ended
-    requires { ⌜ HasParts (g .kind) × Sides w h × (line ≤ end) × (end ≤ w + h) × (length (now picture) ≡ w * h)
+    requires { ⌜ HasParts kind × Sides w h × (line ≤ end) × (end ≤ w + h) × (length (now picture) ≡ w * h)
         × (w * h ≤ length (now distances)) × (w * h ≤ length (now sites)) × (scratch-words w h ≤ length (now scratch)) ⌝ }
-    ensures { λ r. ⌜ LinesDone w h (g .kind) line end (now (picture .entry))
+    ensures { λ r. ⌜ LinesDone w h kind line end (now (picture .entry))
         (buffers (now (distances .entry)) (now (sites .entry)) (now (scratch .entry))) (r .number) (r .next)
         (buffers (now (distances .exit)) (now (sites .exit)) (now (scratch .exit))) ⌝ }
 {
@@ -144,7 +156,7 @@ fn lines_done(
             next: end,
         };
     }
-    rows_done(g, w, h, line, end, distances, sites, scratch)
+    rows_done(kind, w, h, line, end, distances, sites, scratch)
 }
 
 // A slice that has passed the tests of its start.
@@ -165,9 +177,8 @@ fn accepted_slice(
     let w = a.w as usize;
     let h = a.h as usize;
     let line = a.line as usize;
-    let g = Gauge { kind: a.kind };
     let end = reach(w, h, line, a.budget as usize);
-    let ended = lines_done(g, w, h, line, end, picture, distances, sites, scratch);
+    let ended = lines_done(a.kind, w, h, line, end, picture, distances, sites, scratch);
     let cells = w * h;
     let words = scratch_words(w, h);
     set_all(&mut scratch[cells..words], 0);

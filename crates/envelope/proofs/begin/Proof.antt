@@ -9,7 +9,7 @@ use Rattle.envelope.proofs.begin.Tie as tie
 
 -- the way back from the holder that is read to the start
 abbrev at-start : tie.After-as-index → tie.Start
-at-start c = c .before .before .before .before .before
+at-start c = c .before .before .before .before .before .before
 
 returns : tie.Need-returns
 returns c = search needs

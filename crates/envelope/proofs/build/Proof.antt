@@ -14,12 +14,12 @@ use Rattle.envelope.proofs.build.Statement.{statement}
 use Rattle.envelope.proofs.build.Tie as tie
 
 abbrev Inv-loop : tie.InvT-loop
-Inv-loop g values work₀ n m₀ u₀ work m u =
-    Given g values work × (1 ≤ u) × (u ≤ length values)
+Inv-loop g squares values work₀ n m₀ u₀ work m u =
+    Given g squares values work × (1 ≤ u) × (u ≤ length values)
     × Stretches (height-at g values) (length values) u m (starts work) (holders (length values) work)
 
 abbrev μ-loop : tie.MeasureT-loop
-μ-loop g values work₀ n m₀ u₀ work m u = length values - u
+μ-loop g squares values work₀ n m₀ u₀ work m u = length values - u
 
 slice-write-work : tie.Need-slice-write-work Inv-loop μ-loop
 slice-write-work c = omega arith
@@ -31,9 +31,9 @@ slice-write-work-2 : tie.Need-slice-write-work-2 Inv-loop μ-loop
 slice-write-work-2 c = simp length-set (omega arith)
 
 loop-holds : tie.Need-loop-holds Inv-loop μ-loop
-loop-holds c = let p = c .before .before .pre in
-    let w = c .before .before .args .work .now in
-    let n = length (c .before .before .args .values .now) in (
+loop-holds c = let p = c .before .before .before .pre in
+    let w = c .before .before .before .args .work .now in
+    let n = length (c .before .before .before .args .values .now) in (
       record { gauged = p .gauged; room = simp length-set (p .room) },
       le-refl 1,
       p .gauged .line .from,
@@ -53,21 +53,22 @@ loop-less c = omega arith
 
 loop-again : tie.Need-loop-again Inv-loop μ-loop
 loop-again c = let i = c .before .before .before .before .before .loop .inv in (
-  record { gauged = i .0 .gauged; room = c .before .before .turn .kept .1 .1 .0 ∙ i .0 .room },
+  record { gauged = i .0 .gauged; room = c .before .before .turn .kept .1 .1 .1 .0 ∙ i .0 .room },
   omega arith,
   omega arith,
-  turned _ (i .3) (initial _ (i .0 .gauged .parts) _ _) (c .before .before .turn .ensures),
+  turned _ (i .3) (initial _ (i .0 .gauged .known .parts) _ _) (c .before .before .turn .ensures),
 )
 
 same-length : tie.Need-same-length Inv-loop μ-loop
-same-length c = c .before .loop .inv .0 .room ∙ sym (c .before .before .before .before .pre .room)
+same-length c = c .before .loop .inv .0 .room ∙ sym (c .before .before .before .before .before .pre .room)
 
 returns : tie.Need-returns Inv-loop μ-loop
 returns c =
     let i = c .before .loop .inv in
-    let values = c .before .before .before .before .args .values .now in
+    let a = c .before .before .before .before .before .args in
+    let values = a .values .now in
     let all : c .before .loop .u ≡ length values = omega arith in
-    subst (λ u. Stretches (height-at (c .before .before .before .before .args .g) values) (length values) u (c .before .loop .m)
+    subst (λ u. Stretches (height-at (a .g) values) (length values) u (c .before .loop .m)
     (starts (c .before .loop .work)) (holders (length values) (c .before .loop .work))) all (i .3)
 
 pub build-spec : {M : Type 1} → statement M

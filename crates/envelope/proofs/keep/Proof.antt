@@ -13,11 +13,11 @@ use Rattle.envelope.proofs.keep.Statement.{statement}
 use Rattle.envelope.proofs.keep.Tie as tie
 
 abbrev Inv-loop : tie.InvT-loop
-Inv-loop g values work m u kept₀ kept =
+Inv-loop g squares values work m u kept₀ kept =
     Taken (height-at g values) u m (starts work) (holders (length values) work) kept
 
 abbrev μ-loop : tie.MeasureT-loop
-μ-loop g values work m u kept₀ kept = kept
+μ-loop g squares values work m u kept₀ kept = kept
 
 loop-holds : tie.Need-loop-holds Inv-loop μ-loop
 loop-holds c = none-taken
@@ -27,9 +27,9 @@ sub-k c = omega arith
 
 stays-requires : tie.Need-stays-requires Inv-loop μ-loop
 stays-requires c κs =
-    let p = c .before .before .before .before .pre in
+    let p = c .before .before .before .before .before .pre in
     let k = c .before .loop .kept - 1 in
-    let inside : k < c .before .before .before .before .args .m = omega arith in
+    let inside : k < c .before .before .before .before .before .args .m = omega arith in
     (p .0, p .1, omega (arith, p .2 .few), p .2 .on-line k inside, omega (arith, holder-in _ (p .2) k inside))
 
 returns : tie.Need-returns Inv-loop μ-loop

@@ -9,7 +9,7 @@ use Rattle.envelope.proofs.stays.Tie as tie
 
 -- the ways back: from the stretch's start that is read to the function's, and from the first height to the stretch's start
 abbrev at-start : tie.After-as-index → tie.Start
-at-start c = c .before .before .before .before
+at-start c = c .before .before .before .before .before
 
 abbrev read : tie.After-height → tie.After-as-index
 read c = c .before .before .before

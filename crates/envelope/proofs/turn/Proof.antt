@@ -9,7 +9,7 @@ use Rattle.envelope.proofs.turn.Tie as tie
 
 -- the ways back: from what is kept to the start, and from where u begins to what is kept
 abbrev at-start : tie.After-keep → tie.Start
-at-start c = c .before .before .before .before
+at-start c = c .before .before .before .before .before
 
 abbrev kept : tie.After-begin → tie.After-keep
 kept c = c .before .before
@@ -21,7 +21,7 @@ begin-requires : tie.Need-begin-requires
 begin-requires c κs =
     let p = at-start (c .before) .pre in
     let k = c .before .keep .ensures in
-    (p .0, p .1, omega (arith, k .most, p .2 .few), against _ (p .2) (initial _ (p .0 .gauged .parts) _ _) k)
+    (p .0, p .1, omega (arith, k .most, p .2 .few), against _ (p .2) (initial _ (p .0 .gauged .known .parts) _ _) k)
 
 same-length : tie.Need-same-length
 same-length c = search needs
@@ -55,8 +55,8 @@ slice-write-work-2 c =
     let p = at-start k .pre in
     simp length-set (omega (arith, p .0 .room, p .2 .few, k .keep .ensures .most))
 
-add-t15 : tie.Need-add-t15
-add-t15 c = search needs
+add-t16 : tie.Need-add-t16
+add-t16 c = search needs
 
 same-length-2 : tie.Need-same-length-2
 same-length-2 c = search needs
@@ -83,6 +83,6 @@ turn-spec =
     add-work
     mul-work-2
     slice-write-work-2
-    add-t15
+    add-t16
     same-length-2
     returns-2)

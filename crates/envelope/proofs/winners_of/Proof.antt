@@ -6,22 +6,22 @@ use Rattle.envelope.proofs.winners_of.Tie as tie
 
 -- the ways back: from the stretches that are built to the start, and from what is lent to the spread to the stretches
 abbrev at-start : tie.After-build → tie.Start
-at-start c = c .before .before .before .before .before
+at-start c = c .before .before .before .before .before .before
 
 abbrev built : tie.After-spread-arg2 → tie.After-build
 built c = c .before .before .before .before
 
 build-requires : tie.Need-build-requires
-build-requires c κs = c .before .before .before .before .pre .0
+build-requires c κs = c .before .before .before .before .before .pre .0
 
 spread-requires : tie.Need-spread-requires
 spread-requires c κs =
     let p = at-start (built c) .pre in
     let b = built c .build in
-    spreads-of (b .ensures) (p .1) (b .kept .1 .1 .0 ∙ p .0 .room)
+    spreads-of (b .ensures) (p .1) (b .kept .1 .1 .1 .0 ∙ p .0 .room)
 
 same-length : tie.Need-same-length
-same-length c = built (c .before .before .before) .build .kept .1 .1 .0
+same-length c = built (c .before .before .before) .build .kept .1 .1 .1 .0
 
 same-length-2 : tie.Need-same-length-2
 same-length-2 c = c .before .before .spread .kept .1 .1 .0

@@ -8,6 +8,10 @@ use borrow.Author.Needs.{needs}
 use Rattle.gauge.proofs.height.Statement.{statement}
 use Rattle.gauge.proofs.height.Tie as tie
 
+-- the way back to the start
+abbrev at-start : tie.After-apart → tie.Start
+at-start c = c .before .before .before
+
 apart-requires : tie.Need-apart-requires
 apart-requires c κs = search needs
 
@@ -18,11 +22,17 @@ shared-slice-read-combined : tie.Need-shared-slice-read-combined
 shared-slice-read-combined c = search needs
 
 combined-requires : tie.Need-combined-requires
-combined-requires c κs = (c .before .before .before .pre .0 .parts, omega (arith, c .before .apart .ensures, apart-below (c .before .before .before .args .x) (c .before .before .before .args .i)), c .before .before .before .pre .0 .line .values-to (c .before .before .before .args .i) (c .before .before .before .pre .1))
+combined-requires c κs =
+    let a = at-start (c .before) .args in
+    let p = at-start (c .before) .pre in
+    (p .0 .known, omega (arith, c .before .apart .ensures, apart-below (a .x) (a .i)), p .0 .line .values-to (a .i) (p .1))
 
 returns : tie.Need-returns
 unfolding height-at
-returns c = c .combined .ensures ∙ ap (λ dx. measured (c .before .before .before .before .args .g) .combine dx (getD (c .before .before .before .before .args .values .now) (c .before .before .before .before .args .i) 0)) (c .before .before .apart .ensures)
+returns c =
+    let a = at-start (c .before .before) .args in
+    c .combined .ensures
+    ∙ ap (λ dx. measured (a .g) .combine dx (getD (a .values .now) (a .i) 0)) (c .before .before .apart .ensures)
 
 pub height-spec : {M : Type 1} → statement M
 height-spec =

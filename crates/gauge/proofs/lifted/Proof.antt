@@ -12,7 +12,7 @@ returns : tie.Need-returns
 returns c = (rw (c .before .if1 .taken) (c .square .ensures .0), c .square .ensures .1)
 
 returns-2 : tie.Need-returns-2
-returns-2 c = (flat-lift (c .before .args .g .kind) (c .before .args .dy) (c .if1 .left), omega arith)
+returns-2 c = (flat-lift (c .before .before .args .g .kind) (c .before .before .args .dy) (c .if1 .left), omega arith)
 
 pub lifted-spec : {M : Type 1} → statement M
 lifted-spec = tie.close (tie.spec square-requires returns returns-2)

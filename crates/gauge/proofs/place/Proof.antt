@@ -22,10 +22,10 @@ shared-slice-read-last-2 c = search needs
 
 last-requires : tie.Need-last-requires
 unfolding height-at
-last-requires c κs = let p = c .before .before .before .pre in
-    let i = c .before .before .before .args .i in
-    let u = c .before .before .before .args .u in (
-      p .0 .parts,
+last-requires c κs = let p = c .before .before .before .before .pre in
+    let i = c .before .before .before .before .args .i in
+    let u = c .before .before .before .before .args .u in (
+      p .0 .known,
       record {
         apart = p .1;
         column-in = p .2;

@@ -13,13 +13,20 @@ at-start c = c .before .before .before .before .before .before
 fill-requires : tie.Need-fill-requires
 fill-requires c κs = search needs
 
+list-of-squares-requires : tie.Need-list-of-squares-requires
+list-of-squares-requires c κs = tt
+
+slice-aggregate-winners-of : tie.Need-slice-aggregate-winners-of
+slice-aggregate-winners-of c = sym (c .before .list-of-squares .ensures .all)
+
 winners-of-requires : tie.Need-winners-of-requires
 winners-of-requires c κs =
-    let f = c .before .before .before .before .before in
+    let l = c .before .before .before .before in
+    let f = l .before .before .before in
     let p = at-start f .pre in
     let long = sym (f .fill .kept .1 .0) in (
       record {
-        gauged = record { parts = p .0; line = f .fill .ensures };
+        gauged = record { known = record { parts = p .0; listed = l .list-of-squares .ensures }; line = f .fill .ensures };
         room = p .3 ∙ ap₂ _+_ long long;
       },
       p .4 ∙ long,
@@ -45,6 +52,8 @@ try-line-spec =
     tie.close
     (tie.spec
     fill-requires
+    list-of-squares-requires
+    slice-aggregate-winners-of
     winners-of-requires
     wrong-places-requires
     same-length

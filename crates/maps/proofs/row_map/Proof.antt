@@ -1,4 +1,5 @@
 -- `maps::row_map` meets its contract: sweeps, row lines, and the scratch set to zero. Assumes nothing.
+use mathlib.Core.Path.{sym}
 use native.Mathlib.Omega.{arith}
 use Rattle.maps.proofs.After.{believable, rows-after}
 use borrow.Author.Needs.{needs}
@@ -11,7 +12,7 @@ abbrev at-start : tie.After-sweep → tie.Start
 at-start c = c .before .before .before .before .before .before
 
 abbrev swept : tie.After-all-rows → tie.After-sweep
-swept c = c .before .before .before .before .before .before
+swept c = c .before .before .before .before .before .before .before .before
 
 abbrev lined : tie.After-scratch-words → tie.After-all-rows
 lined c = c .before .before .before .before .before .before .before .before
@@ -19,11 +20,18 @@ lined c = c .before .before .before .before .before .before .before .before
 sweep-requires : tie.Need-sweep-requires
 sweep-requires c κs = search needs
 
+list-of-squares-requires : tie.Need-list-of-squares-requires
+list-of-squares-requires c κs = tt
+
+slice-aggregate-all-rows : tie.Need-slice-aggregate-all-rows
+slice-aggregate-all-rows c = sym (c .before .list-of-squares .ensures .all)
+
 all-rows-requires : tie.Need-all-rows-requires
 all-rows-requires c κs =
-    let s = c .before .before .before .before .before in
+    let l = c .before .before .before .before in
+    let s = l .before .before .before in
     let a = at-start s .pre .1 in (
-      at-start s .pre .0,
+      record { parts = at-start s .pre .0; listed = l .list-of-squares .ensures },
       a .sides,
       a .lent .distances-from,
       a .lent .sites-from,
@@ -60,6 +68,8 @@ row-map-spec =
     tie.close
     (tie.spec
     sweep-requires
+    list-of-squares-requires
+    slice-aggregate-all-rows
     all-rows-requires
     scratch-words-requires
     set-front-requires

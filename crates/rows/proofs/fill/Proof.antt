@@ -9,15 +9,15 @@ use Rattle.rows.proofs.fill.Statement.{statement}
 use Rattle.rows.proofs.fill.Tie as tie
 
 abbrev Inv-loop : tie.InvT-loop
-Inv-loop g y words values₀ i₀ values i =
+Inv-loop g squares y words values₀ i₀ values i =
     Filling (λ k. value-of g y (getD words k 0)) values₀ values i × (i ≤ length words)
 
 abbrev μ-loop : tie.MeasureT-loop
-μ-loop g y words values₀ i₀ values i = length words - i
+μ-loop g squares y words values₀ i₀ values i = length words - i
 
 -- the way back from a turn of the loop to the start
 abbrev at-start : tie.In-loop Inv-loop μ-loop → tie.Start Inv-loop μ-loop
-at-start c = c .before .before .before .before
+at-start c = c .before .before .before .before .before
 
 loop-holds : tie.Need-loop-holds Inv-loop μ-loop
 loop-holds c = (filling-none, omega arith)

@@ -12,7 +12,7 @@ use Rattle.rows.proofs.line_out.Tie as tie
 -- the ways back: from the lists that are known to the start, from the winners to the start, from the map words to the
 -- winners, and from the sites to the map words
 abbrev known : tie.After-slice-known3 → tie.Start
-known c = c .before .before .before .before
+known c = c .before .before .before .before .before
 
 abbrev at-start : tie.After-winners-of → tie.Start
 at-start c = known (c .before .before .before)
@@ -25,14 +25,14 @@ worded c = c .before .before .before .before .before
 
 -- the row's words are where they were when the engine has used the tail
 stay : (c : tie.After-winners-of) → let a = at-start c .args in let w = length (a .values .now) in
-    words-part (a .at) w (putMid (a .tail) (a .tail + w + w - a .tail) (a .scratch .now) (c .winners-of .last .1 .1 .0))
+    words-part (a .at) w (putMid (a .tail) (a .tail + w + w - a .tail) (a .scratch .now) (c .winners-of .last .1 .1 .1 .0))
     ≡ words-part (a .at) w (a .scratch .now)
 stay c =
     let a = at-start c .args in
     let k = a .tail + length (a .values .now) + length (a .values .now) - a .tail in
-    let part = c .winners-of .last .1 .1 .0 in
+    let part = c .winners-of .last .1 .1 .1 .0 in
     words-stay (at-start c .pre .0 .believed) k part
-    (same-len-mid (a .tail) k (a .scratch .now) part (c .winners-of .kept .1 .1 .0))
+    (same-len-mid (a .tail) k (a .scratch .now) part (c .winners-of .kept .1 .1 .1 .0))
 
 add-end : tie.Need-add-end
 add-end c = search needs
@@ -64,7 +64,7 @@ write-distances-requires : tie.Need-write-distances-requires
 write-distances-requires c κs =
     let w = won c in
     let p = at-start w .pre in
-    (gauged (p .0), winners-fit (p .0) (w .winners-of .ensures), w .winners-of .kept .1 .1 .1 .0 ∙ p .2, p .1)
+    (gauged (p .0), winners-fit (p .0) (w .winners-of .ensures), w .winners-of .kept .1 .1 .1 .1 .0 ∙ p .2, p .1)
 
 mul-write-sites : tie.Need-mul-write-sites
 mul-write-sites c = search needs
@@ -82,7 +82,7 @@ write-sites-requires : tie.Need-write-sites-requires
 write-sites-requires c κs =
     let w = won (worded c .before) in
     let p = at-start w .pre in
-    rw (stay w) (winners-chosen (p .0) (w .winners-of .ensures) (w .winners-of .kept .1 .1 .1 .0 ∙ p .2))
+    rw (stay w) (winners-chosen (p .0) (w .winners-of .ensures) (w .winners-of .kept .1 .1 .1 .1 .0 ∙ p .2))
 
 same-length : tie.Need-same-length
 same-length c = search needs
@@ -98,8 +98,8 @@ returns c =
     let o = c .before .before in
     let d = worded (o .before) in
     let w = won (d .before) in
-    line-out (at-start w .pre .0) (w .winners-of .ensures) (w .winners-of .last .1 .1 .0) (d .write-distances .ensures)
-    (rw (stay w) at (o .write-sites .ensures)) (w .winners-of .kept .1 .1 .0)
+    line-out (at-start w .pre .0) (w .winners-of .ensures) (w .winners-of .last .1 .1 .1 .0) (d .write-distances .ensures)
+    (rw (stay w) at (o .write-sites .ensures)) (w .winners-of .kept .1 .1 .1 .0)
 
 pub line-out-spec : {M : Type 1} → statement M
 line-out-spec =

@@ -11,7 +11,7 @@ use Rattle.rows.proofs.row_line.Tie as tie
 -- the ways back: from the lists that are known to the start, from the filled line to the start, from what is lent to the
 -- line's map to the filled line, and from the end to the line's map
 abbrev known : tie.After-slice-known4 → tie.Start
-known c = c .before .before .before .before
+known c = c .before .before .before .before .before
 
 abbrev at-start : tie.After-fill → tie.Start
 at-start c = known (c .before .before .before .before)
@@ -24,13 +24,13 @@ lined c = c .before .before .before .before .before .before
 
 -- the scratch is asked for a line as long as the filled one
 believed : (c : tie.After-fill) → let a = at-start c .args in
-    Believed (a .g) (a .at) (a .tail) (a .scratch .now) (length (c .fill .last .1 .1 .1 .0))
-believed c = rw (c .fill .kept .1 .1 .1 .0) (at-start c .pre .0)
+    Believed (a .g) (a .squares .now) (a .at) (a .tail) (a .scratch .now) (length (c .fill .last .1 .1 .1 .1 .0))
+believed c = rw (c .fill .kept .1 .1 .1 .1 .0) (at-start c .pre .0)
 
 -- and so are its words
-made : (c : tie.After-fill) → let a = at-start c .args in let values = c .fill .last .1 .1 .1 .0 in
+made : (c : tie.After-fill) → let a = at-start c .args in let values = c .fill .last .1 .1 .1 .1 .0 in
     Filled (a .g) (a .y) (words-part (a .at) (length values) (a .scratch .now)) values
-made c = rw (c .fill .kept .1 .1 .1 .0) (c .fill .ensures)
+made c = rw (c .fill .kept .1 .1 .1 .1 .0) (c .fill .ensures)
 
 add-end : tie.Need-add-end
 add-end c = search needs
@@ -50,13 +50,13 @@ part-fill-end c = search needs
 fill-requires : tie.Need-fill-requires
 fill-requires c κs =
     let p = known (c .before .before .before) .pre in
-    (p .0 .parts, p .1, sym (words-length (p .0)), words-named (p .0))
+    (p .0 .known, p .1, sym (words-length (p .0)), words-named (p .0))
 
 line-out-requires : tie.Need-line-out-requires
 line-out-requires c κs =
     let f = filled c in
     let p = at-start f .pre in
-    let long = sym (f .fill .kept .1 .1 .1 .0) in
+    let long = sym (f .fill .kept .1 .1 .1 .1 .0) in
     (line-read (believed f) (p .1) (made f), p .2 ∙ long, p .3 ∙ long)
 
 same-length : tie.Need-same-length
@@ -75,7 +75,7 @@ returns : tie.Need-returns
 returns c =
     let o = lined c in
     let f = filled (o .before) in
-    rw (f .fill .kept .1 .1 .1 .0) at (row-made (believed f) (at-start f .pre .1) (made f) (o .line-out .ensures))
+    rw (f .fill .kept .1 .1 .1 .1 .0) at (row-made (believed f) (at-start f .pre .1) (made f) (o .line-out .ensures))
 
 pub row-line-spec : {M : Type 1} → statement M
 row-line-spec =

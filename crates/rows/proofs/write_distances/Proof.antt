@@ -10,15 +10,15 @@ use Rattle.rows.proofs.write_distances.Statement.{statement}
 use Rattle.rows.proofs.write_distances.Tie as tie
 
 abbrev Inv-loop : tie.InvT-loop
-Inv-loop g values winners distances₀ x₀ distances x =
+Inv-loop g squares values winners distances₀ x₀ distances x =
     Filling (λ k. height-at g values (getD winners k 0) k) distances₀ distances x × (x ≤ length winners)
 
 abbrev μ-loop : tie.MeasureT-loop
-μ-loop g values winners distances₀ x₀ distances x = length winners - x
+μ-loop g squares values winners distances₀ x₀ distances x = length winners - x
 
 -- the ways back: from a turn of the loop to the start, and from the winner that is read to its turn
 abbrev at-start : tie.In-loop Inv-loop μ-loop → tie.Start Inv-loop μ-loop
-at-start c = c .before .before .before .before .before
+at-start c = c .before .before .before .before .before .before
 
 abbrev turn : tie.After-as-index Inv-loop μ-loop → tie.In-loop Inv-loop μ-loop
 turn c = c .before .before
@@ -78,7 +78,7 @@ same-length c = c .before .loop .inv .0 .as-long
 
 returns : tie.Need-returns Inv-loop μ-loop
 returns c =
-    let p = c .before .before .before .before .before .pre in
+    let p = c .before .before .before .before .before .before .pre in
     record { word = λ k h. c .before .loop .inv .0 .done k (omega (arith, p .2, c .loop-test .left)) }
 
 pub write-distances-spec : {M : Type 1} → statement M

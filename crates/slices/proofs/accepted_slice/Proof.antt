@@ -104,8 +104,8 @@ cast-next c =
     let A = begun (worked (zeroed c .before .before .before)) .pre in
     omega (arith, next-in (after c) (A .line-in), A .sides)
 
-sub-t27 : tie.Need-sub-t27
-sub-t27 c = omega (arith, after (c .before) .next-is)
+sub-t26 : tie.Need-sub-t26
+sub-t26 c = omega (arith, after (c .before) .next-is)
 
 same-length : tie.Need-same-length
 same-length c = after (c .before) .distances-beyond .as-long
@@ -137,7 +137,7 @@ accepted-slice-spec =
     part-set-all-end
     set-all-requires
     cast-next
-    sub-t27
+    sub-t26
     same-length
     same-length-2
     same-length-3

@@ -76,7 +76,7 @@ returns-2 c =
     let (F, S) = columns k in
     let all : k .column-lines .result ≡ a .end =
     omega (arith, c .if2 .taken, c .before .if1 .left, k .before .before .before .lesser .ensures, F .to-in) in
-    subst (λ n. LinesDone (a .w) (a .h) (a .g .kind) (a .line) (a .end) (a .picture .now)
+    subst (λ n. LinesDone (a .w) (a .h) (a .kind) (a .line) (a .end) (a .picture .now)
     (buffers (a .distances .now) (a .sites .now) (a .scratch .now)) 0 n
     (buffers (a .distances .now) (a .sites .now) (k .column-lines .last .1 .1 .1 .1 .1 .0))) all
     (columns-left (begun k .pre .2) F S (omega (arith, begun k .pre .2, c .if2 .taken)) (λ _. refl)
@@ -108,7 +108,7 @@ returns-3 c =
     let (F, S) = columns k in
     let (past, R) = r .ensures in
     let next : a .w + (r .result .next - a .w) ≡ r .result .next = omega arith in
-    subst (λ n. LinesDone (a .w) (a .h) (a .g .kind) (a .line) (a .end) (a .picture .now)
+    subst (λ n. LinesDone (a .w) (a .h) (a .kind) (a .line) (a .end) (a .picture .now)
     (buffers (a .distances .now) (a .sites .now) (a .scratch .now)) (r .result .number) n
     (buffers (r .last .1 .1 .1 .1 .1 .0) (r .last .1 .1 .1 .1 .1 .1 .0) (r .last .1 .1 .1 .1 .1 .1 .1 .0))) next
     (rows-left (begun k .pre .2) F S (e .if2 .left)

@@ -9,16 +9,16 @@ use Rattle.cost_lines.proofs.column.all_columns.Statement.{statement}
 use Rattle.cost_lines.proofs.column.all_columns.Tie as tie
 
 abbrev Inv-loop : tie.InvT-loop
-Inv-loop g w costs values₀ winners₀ scratch₀ x₀ values winners scratch x = Sweeping (g .kind) w
+Inv-loop g squares w costs values₀ winners₀ scratch₀ x₀ values winners scratch x = Sweeping (g .kind) w
     (length values₀) costs values winners scratch x
 
 abbrev μ-loop : tie.MeasureT-loop
-μ-loop g w costs values₀ winners₀ scratch₀ x₀ values winners scratch x = w - x
+μ-loop g squares w costs values₀ winners₀ scratch₀ x₀ values winners scratch x = w - x
 
 -- the ways back: from the loop to the start, from what is lent to the column line to its turn, and from the end of the turn
 -- to the column line
 abbrev at-start : tie.At-loop Inv-loop μ-loop → tie.Start Inv-loop μ-loop
-at-start c = c .before .before .before .before .before
+at-start c = c .before .before .before .before .before .before
 
 abbrev turn : tie.After-column-line-arg3 Inv-loop μ-loop → tie.In-loop Inv-loop μ-loop
 turn c = c .before .before .before
@@ -28,11 +28,11 @@ lined c = c .before .before .before .before .before .before
 
 loop-holds : tie.Need-loop-holds Inv-loop μ-loop
 loop-holds c =
-    let p = c .before .before .before .before .pre in
+    let p = c .before .before .before .before .before .pre in
     record {
       values-long = refl;
-      winners-long = p .1;
-      scratch-long = p .2;
+      winners-long = p .2;
+      scratch-long = p .3;
       left = λ i l. absurd
           (omega arith);
       within = omega arith;
@@ -43,7 +43,7 @@ column-line-requires c κs =
     let l = turn c in
     let i = l .before .loop .inv in
     let p = at-start (l .before) .pre in
-    rw (i .values-long) (p .0, l .loop-test .taken, i .winners-long, i .scratch-long)
+    rw (i .values-long) (p .0, p .1, l .loop-test .taken, i .winners-long, i .scratch-long)
 
 add-x : tie.Need-add-x Inv-loop μ-loop
 add-x c = omega (arith, turn (lined c .before) .loop-test .taken)
@@ -55,17 +55,17 @@ loop-again : tie.Need-loop-again Inv-loop μ-loop
 loop-again c =
     let l = turn (lined c .before) in
     let m = lined c .column-line in
-    sweeping-more (l .before .loop .inv) (l .loop-test .taken) (m .ensures) (m .kept .1 .1 .1 .1 .0)
-    (m .kept .1 .1 .1 .1 .1 .0) (m .kept .1 .1 .1 .1 .1 .1 .0)
+    sweeping-more (l .before .loop .inv) (l .loop-test .taken) (m .ensures) (m .kept .1 .1 .1 .1 .1 .0)
+    (m .kept .1 .1 .1 .1 .1 .1 .0) (m .kept .1 .1 .1 .1 .1 .1 .1 .0)
 
 same-length : tie.Need-same-length Inv-loop μ-loop
 same-length c = c .before .loop .inv .values-long
 
 same-length-2 : tie.Need-same-length-2 Inv-loop μ-loop
-same-length-2 c = c .before .loop .inv .winners-long ∙ sym (at-start (c .before) .pre .1)
+same-length-2 c = c .before .loop .inv .winners-long ∙ sym (at-start (c .before) .pre .2)
 
 same-length-3 : tie.Need-same-length-3 Inv-loop μ-loop
-same-length-3 c = c .before .loop .inv .scratch-long ∙ sym (at-start (c .before) .pre .2)
+same-length-3 c = c .before .loop .inv .scratch-long ∙ sym (at-start (c .before) .pre .3)
 
 returns : tie.Need-returns Inv-loop μ-loop
 returns c = λ i l. c .before .loop .inv .left i (omega arith)

@@ -14,7 +14,7 @@ use Rattle.cost_lines.proofs.column.column_line.Tie as tie
 -- the ways back: from the gathered line to the start, from the winners to the gathered line, and from what is lent to the
 -- scatter to the winners
 abbrev at-start : tie.After-gather → tie.Start
-at-start c = c .before .before .before .before .before .before
+at-start c = c .before .before .before .before .before .before .before
 
 abbrev gathered : tie.After-winners-of → tie.After-gather
 gathered c = c .before .before .before .before .before .before
@@ -54,11 +54,11 @@ winners-of-requires c κs =
     let h = length (a .values .now) in
     let long = f .gather .kept .1 .1 .1 .0 in (
       record {
-        gauged = column-line (p .0) (p .1) long (f .gather .ensures);
+        gauged = column-line (p .1) (p .2) long (f .gather .ensures) (p .0);
         room = part-length {a = a .w * h} {e = a .w * h + h + h} (a .scratch .now) (omega arith)
-            (omega (arith, p .3)) ∙ omega (arith, long);
+            (omega (arith, p .4)) ∙ omega (arith, long);
       },
-      p .2 ∙ sym long,
+      p .3 ∙ sym long,
     )
 
 scatter-requires : tie.Need-scatter-requires
@@ -70,11 +70,11 @@ scatter-requires c κs =
     let h = length (a .values .now) in
     let tail = a .w * h in
     let long = f .gather .kept .1 .1 .1 .0 in
-    let room = same-len-mid tail (tail + h + h - tail) (a .scratch .now) (w .winners-of .last .1 .1 .0)
-    (w .winners-of .kept .1 .1 .0) in (
-      p .1,
-      omega (arith, ap (λ n. a .w * n) long, room, p .3),
-      w .winners-of .kept .1 .1 .1 .0 ∙ p .2 ∙ sym long,
+    let room = same-len-mid tail (tail + h + h - tail) (a .scratch .now) (w .winners-of .last .1 .1 .1 .0)
+    (w .winners-of .kept .1 .1 .1 .0) in (
+      p .2,
+      omega (arith, ap (λ n. a .w * n) long, room, p .4),
+      w .winners-of .kept .1 .1 .1 .1 .0 ∙ p .3 ∙ sym long,
       λ y l. w .winners-of .ensures y l .column-in,
     )
 
@@ -95,8 +95,8 @@ returns c =
     let p = at-start f .pre in
     let a = at-start f .args in
     let h = length (a .values .now) in
-    column-more (p .0) (p .1) (f .gather .kept .1 .1 .1 .0) (f .gather .ensures) (a .w * h + h + h - a .w * h)
-    (w .winners-of .last .1 .1 .0) (p .3)
+    column-more (p .1) (p .2) (f .gather .kept .1 .1 .1 .0) (f .gather .ensures) (a .w * h + h + h - a .w * h)
+    (w .winners-of .last .1 .1 .1 .0) (p .4)
     (w .winners-of .ensures) (s .scatter .ensures)
 
 pub column-line-spec : {M : Type 1} → statement M

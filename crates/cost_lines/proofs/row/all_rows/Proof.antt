@@ -11,16 +11,16 @@ use Rattle.cost_lines.proofs.row.all_rows.Statement.{statement}
 use Rattle.cost_lines.proofs.row.all_rows.Tie as tie
 
 abbrev Inv-loop : tie.InvT-loop
-Inv-loop g h costs values₀ scratch₀ distances₀ sites₀ w y₀ values scratch distances sites y = Crossing (g .kind)
+Inv-loop g squares h costs values₀ scratch₀ distances₀ sites₀ w y₀ values scratch distances sites y = Crossing (g .kind)
     (length values₀) h costs values scratch distances sites y
 
 abbrev μ-loop : tie.MeasureT-loop
-μ-loop g h costs values₀ scratch₀ distances₀ sites₀ w y₀ values scratch distances sites y = h - y
+μ-loop g squares h costs values₀ scratch₀ distances₀ sites₀ w y₀ values scratch distances sites y = h - y
 
 -- the ways back: from the loop to the start, from what is lent to the row line to its turn, and from the end of the turn to
 -- the row line
 abbrev at-start : tie.At-loop Inv-loop μ-loop → tie.Start Inv-loop μ-loop
-at-start c = c .before .before .before .before .before .before
+at-start c = c .before .before .before .before .before .before .before
 
 abbrev turn : tie.After-row-line-arg4 Inv-loop μ-loop → tie.In-loop Inv-loop μ-loop
 turn c = c .before .before .before .before
@@ -36,26 +36,26 @@ inside c = row-ends (length (at-start (c .before) .args .values .now)) refl (c .
 
 loop-holds : tie.Need-loop-holds Inv-loop μ-loop
 loop-holds c =
-    let p = c .before .before .before .before .before .pre in
+    let p = c .before .before .before .before .before .before .pre in
     record {
       values-long = refl;
-      scratch-long = p .2;
-      distances-long = p .3;
-      sites-long = p .4;
-      columns = p .1;
+      scratch-long = p .3;
+      distances-long = p .4;
+      sites-long = p .5;
+      columns = p .2;
       made = λ j l. absurd (omega arith);
       within = omega arith;
     }
 
 mul-at : tie.Need-mul-at Inv-loop μ-loop
-mul-at c = omega (arith, inside c, at-start (c .before) .pre .3)
+mul-at c = omega (arith, inside c, at-start (c .before) .pre .4)
 
 add-end : tie.Need-add-end Inv-loop μ-loop
-add-end c = omega (arith, inside c, at-start (c .before) .pre .3)
+add-end c = omega (arith, inside c, at-start (c .before) .pre .4)
 
 mul-row-line : tie.Need-mul-row-line Inv-loop μ-loop
 mul-row-line c =
-    let t = c .before .before in omega (arith, inside t, at-start (t .before) .pre .3)
+    let t = c .before .before in omega (arith, inside t, at-start (t .before) .pre .4)
 
 sub-row-line : tie.Need-sub-row-line Inv-loop μ-loop
 sub-row-line c = omega arith
@@ -69,7 +69,7 @@ part-row-line-end c =
 
 mul-row-line-2 : tie.Need-mul-row-line-2 Inv-loop μ-loop
 mul-row-line-2 c =
-    let t = c .before .before .before in omega (arith, inside t, at-start (t .before) .pre .4)
+    let t = c .before .before .before in omega (arith, inside t, at-start (t .before) .pre .5)
 
 sub-row-line-2 : tie.Need-sub-row-line-2 Inv-loop μ-loop
 sub-row-line-2 c = omega arith
@@ -90,6 +90,7 @@ row-line-requires c κs =
     let t = l .loop-test .taken in
     rw (i .values-long) (
       s .pre .0,
+      s .pre .1,
       t,
       i .columns,
       i .scratch-long,
@@ -107,25 +108,25 @@ loop-again : tie.Need-loop-again Inv-loop μ-loop
 loop-again c =
     let l = turn (lined c .before) in
     let m = lined c .row-line in
-    crossing-more (m .last .1 .1 .1 .1 .1 .1 .0) (m .last .1 .1 .1 .1 .1 .1 .1 .0) (l .before .loop .inv)
+    crossing-more (m .last .1 .1 .1 .1 .1 .1 .1 .0) (m .last .1 .1 .1 .1 .1 .1 .1 .1 .0) (l .before .loop .inv)
     (l .loop-test .taken) (m .ensures)
-    (m .kept .1 .1 .1 .1 .0) (m .kept .1 .1 .1 .1 .1 .0) (m .kept .1 .1 .1 .1 .1 .1 .0)
-    (m .kept .1 .1 .1 .1 .1 .1 .1 .0)
+    (m .kept .1 .1 .1 .1 .1 .0) (m .kept .1 .1 .1 .1 .1 .1 .0) (m .kept .1 .1 .1 .1 .1 .1 .1 .0)
+    (m .kept .1 .1 .1 .1 .1 .1 .1 .1 .0)
 
 same-length : tie.Need-same-length Inv-loop μ-loop
 same-length c = c .before .loop .inv .values-long
 
 same-length-2 : tie.Need-same-length-2 Inv-loop μ-loop
 same-length-2 c =
-    c .before .loop .inv .scratch-long ∙ sym (at-start (c .before) .pre .2)
+    c .before .loop .inv .scratch-long ∙ sym (at-start (c .before) .pre .3)
 
 same-length-3 : tie.Need-same-length-3 Inv-loop μ-loop
 same-length-3 c =
-    c .before .loop .inv .distances-long ∙ sym (at-start (c .before) .pre .3)
+    c .before .loop .inv .distances-long ∙ sym (at-start (c .before) .pre .4)
 
 same-length-4 : tie.Need-same-length-4 Inv-loop μ-loop
 same-length-4 c =
-    c .before .loop .inv .sites-long ∙ sym (at-start (c .before) .pre .4)
+    c .before .loop .inv .sites-long ∙ sym (at-start (c .before) .pre .5)
 
 returns : tie.Need-returns Inv-loop μ-loop
 returns c = λ j l. c .before .loop .inv .made j (omega arith)

@@ -17,7 +17,7 @@ use Rattle.cost_lines.proofs.row.column_value.Tie as tie
 
 -- the way back to the start
 abbrev at-start : tie.After-as-index → tie.Start
-at-start c = c .before .before .before
+at-start c = c .before .before .before .before
 
 -- the word names a row, and its cell is one of the picture
 inside : (c : tie.After-as-index) → let a = at-start c .args in
@@ -29,7 +29,7 @@ inside c =
     (λ marked. absurd (c .before .if1 .left marked)) (at-start c .pre .2)
 
 returns : tie.Need-returns
-returns c = rw (eq-eqb (c .before .before .args .word) mark (c .if1 .taken))
+returns c = rw (eq-eqb (c .before .before .before .args .word) mark (c .if1 .taken))
 
 as-index-requires : tie.Need-as-index-requires
 as-index-requires c κs = search needs
@@ -50,8 +50,8 @@ cast-cost : tie.Need-cast-cost
 cast-cost c =
     omega (
       arith,
-      c .shared-slice-known2 .given (c .before .as-index .result * c .before .before .before .before .args .w
-          + c .before .before .before .before .args .i),
+      c .shared-slice-known3 .given (c .before .as-index .result * c .before .before .before .before .before .args .w
+          + c .before .before .before .before .before .args .i),
     )
 
 apart-requires : tie.Need-apart-requires
@@ -68,7 +68,7 @@ add-result c =
     omega (
       arith,
       c .lifted .ensures .1,
-      k .shared-slice-known2 .given
+      k .shared-slice-known3 .given
           (k .before .as-index .result * at-start (k .before) .args .w + at-start (k .before) .args .i),
     )
 

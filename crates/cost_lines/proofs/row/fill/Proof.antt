@@ -9,16 +9,16 @@ use Rattle.cost_lines.proofs.row.fill.Statement.{statement}
 use Rattle.cost_lines.proofs.row.fill.Tie as tie
 
 abbrev Inv-loop : tie.InvT-loop
-Inv-loop g y costs words values₀ w i₀ values i =
+Inv-loop g squares y costs words values₀ w i₀ values i =
     Filling (λ k. column-value (g .kind) (length words) costs y k (getD words k 0)) values₀ values i
     × (i ≤ length words)
 
 abbrev μ-loop : tie.MeasureT-loop
-μ-loop g y costs words values₀ w i₀ values i = length words - i
+μ-loop g squares y costs words values₀ w i₀ values i = length words - i
 
 -- the way back from a turn of the loop to the start
 abbrev at-start : tie.In-loop Inv-loop μ-loop → tie.Start Inv-loop μ-loop
-at-start c = c .before .before .before .before .before
+at-start c = c .before .before .before .before .before .before
 
 loop-holds : tie.Need-loop-holds Inv-loop μ-loop
 loop-holds c = (filling-none, omega arith)

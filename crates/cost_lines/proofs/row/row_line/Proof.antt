@@ -14,7 +14,7 @@ use Rattle.cost_lines.proofs.row.row_line.Tie as tie
 -- the ways back: from the lists that are known to the start, from the filled line to the start, from what is lent to the
 -- line's map to the filled line, and from the end to the line's map
 abbrev known : tie.After-slice-known4 → tie.Start
-known c = c .before .before .before .before .before
+known c = c .before .before .before .before .before .before
 
 abbrev at-start : tie.After-fill → tie.Start
 at-start c = known (c .before .before .before .before)
@@ -27,8 +27,8 @@ lined c = c .before .before .before .before .before .before
 
 -- the row's words can be believed
 trust : (c : tie.Start) → let w = length (c .args .values .now) in
-    Believed (c .args .g) (c .args .y * w) (w * c .args .h) (c .args .scratch .now) w
-trust c = believed (c .args .scratch .now) (c .pre .0) (c .pre .1) (c .pre .2) (c .pre .3)
+    Believed (c .args .g) (c .args .squares .now) (c .args .y * w) (w * c .args .h) (c .args .scratch .now) w
+trust c = believed (c .args .scratch .now) (c .pre .0) (c .pre .1) (c .pre .2) (c .pre .3) (c .pre .4)
 
 -- the row ends within the scratch
 inside : (c : tie.Start) → let w = length (c .args .values .now) in
@@ -37,11 +37,11 @@ inside c = omega (arith, trust c .before-tail, trust c .room)
 
 -- the filled line can be read
 read : (c : tie.After-fill) → let a = at-start c .args in let w = length (a .values .now) in
-    LineRead (a .g) (a .y * w) (w * a .h) (a .scratch .now) (c .fill .last .1 .1 .1 .1 .0)
+    LineRead (a .g) (a .squares .now) (a .y * w) (w * a .h) (a .scratch .now) (c .fill .last .1 .1 .1 .1 .1 .0)
 read c =
     let s = at-start c in
-    line-read (s .args .scratch .now) (s .pre .0) (s .pre .1) (s .pre .2) (s .pre .3) (c .fill .kept .1 .1 .1 .1 .0)
-    (c .fill .ensures)
+    line-read (s .args .scratch .now) (s .pre .0) (s .pre .1) (s .pre .2) (s .pre .3) (s .pre .4)
+    (c .fill .kept .1 .1 .1 .1 .1 .0) (c .fill .ensures)
 
 mul-at : tie.Need-mul-at
 mul-at c = omega (arith, inside (known c))
@@ -65,10 +65,10 @@ fill-requires : tie.Need-fill-requires
 fill-requires c κs =
     let s = known (c .before .before .before) in
     let b = trust s in (
-      b .parts,
-      omega (arith, s .pre .1, s .pre .0 .sides .height-to),
+      s .pre .0,
+      omega (arith, s .pre .2, s .pre .1 .sides .height-to),
       sym (words-length b),
-      priced-part (s .args .scratch .now) (s .pre .0) (s .pre .1) (s .pre .2) (s .pre .3),
+      priced-part (s .args .scratch .now) (s .pre .0) (s .pre .1) (s .pre .2) (s .pre .3) (s .pre .4),
     )
 
 mul-line-out : tie.Need-mul-line-out
@@ -77,8 +77,8 @@ mul-line-out c = search needs
 line-out-requires : tie.Need-line-out-requires
 line-out-requires c κs =
     let f = filled c in
-    let long = sym (f .fill .kept .1 .1 .1 .1 .0) in
-    (read f, at-start f .pre .4 ∙ long, at-start f .pre .5 ∙ long)
+    let long = sym (f .fill .kept .1 .1 .1 .1 .1 .0) in
+    (read f, at-start f .pre .5 ∙ long, at-start f .pre .6 ∙ long)
 
 same-length : tie.Need-same-length
 same-length c = search needs
@@ -97,8 +97,8 @@ returns c =
     let o = lined c in
     let f = filled (o .before) in
     let s = at-start f in
-    row-more (s .args .scratch .now) (s .pre .0) (s .pre .1) (s .pre .2) (s .pre .3) (f .fill .kept .1 .1 .1 .1 .0)
-    (f .fill .ensures) (o .line-out .ensures)
+    row-more (s .args .scratch .now) (s .pre .0) (s .pre .1) (s .pre .2) (s .pre .3) (s .pre .4)
+    (f .fill .kept .1 .1 .1 .1 .1 .0) (f .fill .ensures) (o .line-out .ensures)
 
 pub row-line-spec : {M : Type 1} → statement M
 row-line-spec =

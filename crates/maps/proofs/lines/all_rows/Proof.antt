@@ -16,16 +16,16 @@ use Rattle.maps.proofs.lines.all_rows.Statement.{statement}
 use Rattle.maps.proofs.lines.all_rows.Tie as tie
 
 abbrev Inv-loop : tie.InvT-loop
-Inv-loop g w h distances₀ sites₀ scratch₀ line₀ tail at₀ y₀ distances sites scratch line at y =
+Inv-loop g squares w h distances₀ sites₀ scratch₀ line₀ tail at₀ y₀ distances sites scratch line at y =
     RowsMade g w h y scratch₀ scratch distances₀ distances sites₀ sites × (at ≡ y * w) × (y ≤ h) × (length line ≡ side-limit)
 
 abbrev μ-loop : tie.MeasureT-loop
-μ-loop g w h distances₀ sites₀ scratch₀ line₀ tail at₀ y₀ distances sites scratch line at y = h - y
+μ-loop g squares w h distances₀ sites₀ scratch₀ line₀ tail at₀ y₀ distances sites scratch line at y = h - y
 
 -- the ways back: from a turn of the loop to the start, from the line that is lent to its turn, from all that is lent to
 -- the line, and from the end of the turn to the row line
 abbrev at-start : tie.In-loop Inv-loop μ-loop → tie.Start Inv-loop μ-loop
-at-start c = c .before .before .before .before .before
+at-start c = c .before .before .before .before .before .before
 
 abbrev turn : tie.After-line Inv-loop μ-loop → tie.In-loop Inv-loop μ-loop
 turn c = c .before .before
@@ -52,7 +52,7 @@ lent-row : (c : tie.In-loop Inv-loop μ-loop) (l l₀ : List ℕ) → let w = at
 lent-row c l l₀ room long = row-part-long l (c .before .loop .inv .1) (c .loop-test .taken) (omega arith)
 
 mul-tail : tie.Need-mul-tail Inv-loop μ-loop
-mul-tail c = omega (arith, cells-few (c .before .before .before .pre .1))
+mul-tail c = omega (arith, cells-few (c .before .before .before .before .pre .1))
 
 loop-holds : tie.Need-loop-holds Inv-loop μ-loop
 loop-holds c = (rows-none _ _ _, omega arith, omega arith, refl)
@@ -100,7 +100,7 @@ row-line-requires c κs =
     let p = at-start k .pre in
     let i = k .before .loop .inv in
     let w = lent k in (
-      subst (Believed (a .g) (k .before .loop .at) (a .w * a .h) (k .before .loop .scratch)) (sym w)
+      subst (Believed (a .g) (a .squares .now) (k .before .loop .at) (a .w * a .h) (k .before .loop .scratch)) (sym w)
           (believed-at (p .1) (k .before .loop .at) (i .1) (p .0) (p .5) (p .4) (k .loop-test .taken) (i .0)),
       omega (arith, k .loop-test .taken, p .1 .height-to),
       lent-row k (k .before .loop .distances) (a .distances .now) (p .2) (i .0 .distances-beyond .as-long) ∙ sym w,
@@ -121,18 +121,18 @@ loop-again c =
     let p = at-start k .pre in
     let i = k .before .loop .inv in
     let at = k .before .loop .at in
-    let d = r .last .1 .1 .1 .1 .1 .1 .0 in
-    let s = r .last .1 .1 .1 .1 .1 .1 .1 .0 in
-    let d-long = r .kept .1 .1 .1 .1 .1 .1 .0
+    let d = r .last .1 .1 .1 .1 .1 .1 .1 .0 in
+    let s = r .last .1 .1 .1 .1 .1 .1 .1 .1 .0 in
+    let d-long = r .kept .1 .1 .1 .1 .1 .1 .1 .0
     ∙ lent-row k (k .before .loop .distances) (a .distances .now) (p .2) (i .0 .distances-beyond .as-long) in
-    let s-long = r .kept .1 .1 .1 .1 .1 .1 .1 .0
+    let s-long = r .kept .1 .1 .1 .1 .1 .1 .1 .1 .0
     ∙ lent-row k (k .before .loop .sites) (a .sites .now) (p .3) (i .0 .sites-beyond .as-long) in
     let made = subst (λ n. RowMade (a .g) (k .before .loop .y) at (a .w * a .h) n (k .before .loop .scratch)
-    (r .last .1 .1 .1 .1 .0) d s) (lent k) (r .ensures) in (
+    (r .last .1 .1 .1 .1 .1 .0) d s) (lent k) (r .ensures) in (
       rows-more-at (p .1) at d s (i .1) (k .loop-test .taken) (p .2) (p .3) d-long s-long (i .0) made,
       omega arith,
       omega arith,
-      length-front (k .before .loop .line) (r .last .1 .1 .1 .1 .1 .0) (a .w) (r .kept .1 .1 .1 .1 .1 .0) ∙ i .3,
+      length-front (k .before .loop .line) (r .last .1 .1 .1 .1 .1 .1 .0) (a .w) (r .kept .1 .1 .1 .1 .1 .1 .0) ∙ i .3,
     )
 
 same-length : tie.Need-same-length Inv-loop μ-loop
@@ -146,7 +146,7 @@ same-length-3 c = c .before .loop .inv .0 .scratch-beyond .as-long
 
 returns : tie.Need-returns Inv-loop μ-loop
 returns c =
-    let a = c .before .before .before .before .before .args in
+    let a = c .before .before .before .before .before .before .args in
     let all : c .before .loop .y ≡ a .h = omega arith in
     subst (λ y. RowsMade (a .g) (a .w) (a .h) y (a .scratch .now) (c .before .loop .scratch) (a .distances .now)
     (c .before .loop .distances) (a .sites .now) (c .before .loop .sites)) all (c .before .loop .inv .0)

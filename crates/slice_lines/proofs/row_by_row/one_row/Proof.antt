@@ -13,7 +13,7 @@ use Rattle.slice_lines.proofs.row_by_row.one_row.Tie as tie
 
 -- the ways back: from the test to the start, from the row line to the test, and from the end to the row line
 abbrev begun : tie.After-row-number-arg → tie.Start
-begun c = c .before .before .before .before .before
+begun c = c .before .before .before .before .before .before
 
 abbrev tested : tie.After-row-line-arg4 → tie.Else1
 tested c = c .before .before .before .before
@@ -52,16 +52,16 @@ row-line-requires c κs =
     (row-believed (b .pre .0) (b .pre .1) (can t), omega (arith, b .pre .1 .row-in, b .pre .1 .sides .height-to), b .pre .2, b .pre .3)
 
 same-length-2 : tie.Need-same-length-2
-same-length-2 c = lined c .row-line .kept .1 .1 .1 .1 .0
+same-length-2 c = lined c .row-line .kept .1 .1 .1 .1 .1 .0
 
 same-length-3 : tie.Need-same-length-3
-same-length-3 c = lined c .row-line .kept .1 .1 .1 .1 .1 .0
+same-length-3 c = lined c .row-line .kept .1 .1 .1 .1 .1 .1 .0
 
 same-length-4 : tie.Need-same-length-4
-same-length-4 c = lined c .row-line .kept .1 .1 .1 .1 .1 .1 .0
+same-length-4 c = lined c .row-line .kept .1 .1 .1 .1 .1 .1 .1 .0
 
 same-length-5 : tie.Need-same-length-5
-same-length-5 c = lined c .row-line .kept .1 .1 .1 .1 .1 .1 .1 .0
+same-length-5 c = lined c .row-line .kept .1 .1 .1 .1 .1 .1 .1 .1 .0
 
 returns-2 : tie.Need-returns-2
 returns-2 c =

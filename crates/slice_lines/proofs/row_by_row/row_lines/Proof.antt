@@ -16,17 +16,17 @@ use Rattle.slice_lines.proofs.row_by_row.row_lines.Statement.{statement
 use Rattle.slice_lines.proofs.row_by_row.row_lines.Tie as tie
 
 abbrev Inv-loop : tie.InvT-loop
-Inv-loop g w h from to distances₀ sites₀ scratch₀ line₀ at₀ y₀ distances sites scratch line at y =
-    RowsDone g w h from y scratch₀ scratch distances₀ distances sites₀ sites × (at ≡ y * w) × (from ≤ y) × (y ≤ to)
+Inv-loop g squares w h from to distances₀ sites₀ scratch₀ line₀ at₀ y₀ distances sites scratch line at y =
+    RowsDone (g .kind) w h from y scratch₀ scratch distances₀ distances sites₀ sites × (at ≡ y * w) × (from ≤ y) × (y ≤ to)
     × (length line ≡ side-limit)
 
 abbrev μ-loop : tie.MeasureT-loop
-μ-loop g w h from to distances₀ sites₀ scratch₀ line₀ at₀ y₀ distances sites scratch line at y = h - y
+μ-loop g squares w h from to distances₀ sites₀ scratch₀ line₀ at₀ y₀ distances sites scratch line at y = h - y
 
 -- the ways back: from a turn of the loop to the start, from the line that is lent to its turn, from all that is lent to
 -- the line, and from the end of the turn to the row line
 abbrev at-start : tie.In-loop Inv-loop μ-loop → tie.Start Inv-loop μ-loop
-at-start c = c .before .before .before .before .before
+at-start c = c .before .before .before .before .before .before
 
 abbrev turn : tie.After-line Inv-loop μ-loop → tie.In-loop Inv-loop μ-loop
 turn c = c .before .before
@@ -75,22 +75,22 @@ lent-sites c =
 
 mul-at : tie.Need-mul-at Inv-loop μ-loop
 mul-at c =
-    let a = c .before .before .before .args in
-    let p = c .before .before .before .pre in
+    let a = c .before .before .before .before .args in
+    let p = c .before .before .before .before .pre in
     let l : a .from ≤ a .h = omega (arith, p .2, p .3) in
     omega (arith, mul-le-mul-right (a .w) l, cells-few (p .1))
 
 loop-holds : tie.Need-loop-holds Inv-loop μ-loop
-loop-holds c = (rows-none _ _ _, refl, omega arith, c .before .before .before .pre .2, refl)
-
-add-end : tie.Need-add-end Inv-loop μ-loop
-add-end c = omega (arith, inside c, cells-few (at-start c .pre .1))
+loop-holds c = (rows-none _ _ _, refl, omega arith, c .before .before .before .before .pre .2, refl)
 
 array-borrow-prefix-line : tie.Need-array-borrow-prefix-line Inv-loop μ-loop
 array-borrow-prefix-line c = omega (arith, c .before .before .loop .inv .4, at-start (c .before) .pre .1 .width-to)
 
 slice-aggregate-one-row : tie.Need-slice-aggregate-one-row Inv-loop μ-loop
 slice-aggregate-one-row c = sym (lent (turn c))
+
+add-one-row : tie.Need-add-one-row Inv-loop μ-loop
+add-one-row c = omega (arith, inside (turn c), cells-few (at-start (turn c) .pre .1))
 
 mul-one-row : tie.Need-mul-one-row Inv-loop μ-loop
 mul-one-row c = omega (arith, inside (turn c), cells-few (at-start (turn c) .pre .1))
@@ -105,6 +105,9 @@ part-one-row-end : tie.Need-part-one-row-end Inv-loop μ-loop
 part-one-row-end c =
     let t = turn c in
     omega (arith, inside t, at-start t .pre .4, t .before .loop .inv .0 .distances-written .beyond .as-long)
+
+add-one-row-2 : tie.Need-add-one-row-2 Inv-loop μ-loop
+add-one-row-2 c = let t = turn (c .before) in omega (arith, inside t, cells-few (at-start t .pre .1))
 
 mul-one-row-2 : tie.Need-mul-one-row-2 Inv-loop μ-loop
 mul-one-row-2 c = let t = turn (c .before) in omega (arith, inside t, cells-few (at-start t .pre .1))
@@ -138,18 +141,18 @@ once : (c : tie.After-one-row Inv-loop μ-loop) → let k = turn (lending (c .be
     let r = c .one-row in
     let at = k .before .loop .at in
     RowOnce (a .g) (a .w) (a .h) (k .before .loop .y) at (k .before .loop .scratch)
-    (r .last .1 .1 .1 .1 .0) (take (at + a .w - at) (drop at (k .before .loop .distances)))
-    (r .last .1 .1 .1 .1 .1 .1 .0) (take (at + a .w - at) (drop at (k .before .loop .sites)))
-    (r .last .1 .1 .1 .1 .1 .1 .1 .0) (r .result)
+    (r .last .1 .1 .1 .1 .1 .0) (take (at + a .w - at) (drop at (k .before .loop .distances)))
+    (r .last .1 .1 .1 .1 .1 .1 .1 .0) (take (at + a .w - at) (drop at (k .before .loop .sites)))
+    (r .last .1 .1 .1 .1 .1 .1 .1 .1 .0) (r .result)
 once c =
     let k = turn (lending (c .before)) in
     let a = at-start k .args in
     let r = c .one-row in
     let at = k .before .loop .at in
     subst (λ n. RowOnce (a .g) n (a .h) (k .before .loop .y) at (k .before .loop .scratch)
-    (r .last .1 .1 .1 .1 .0) (take (at + a .w - at) (drop at (k .before .loop .distances)))
-    (r .last .1 .1 .1 .1 .1 .1 .0) (take (at + a .w - at) (drop at (k .before .loop .sites)))
-    (r .last .1 .1 .1 .1 .1 .1 .1 .0) (r .result)) (lent k) (r .ensures)
+    (r .last .1 .1 .1 .1 .1 .0) (take (at + a .w - at) (drop at (k .before .loop .distances)))
+    (r .last .1 .1 .1 .1 .1 .1 .1 .0) (take (at + a .w - at) (drop at (k .before .loop .sites)))
+    (r .last .1 .1 .1 .1 .1 .1 .1 .1 .0) (r .result)) (lent k) (r .ensures)
 
 -- where it stops, the rows before it are done
 stays : (c : tie.Then1 Inv-loop μ-loop) → let l = lined (c .before) in
@@ -157,13 +160,13 @@ stays : (c : tie.Then1 Inv-loop μ-loop) → let l = lined (c .before) in
     let a = at-start k .args in
     let r = l .one-row in
     let at = k .before .loop .at in
-    RowsDone (a .g) (a .w) (a .h) (a .from) (k .before .loop .y) (a .scratch .now) (r .last .1 .1 .1 .1 .0)
-    (a .distances .now) (putMid at (at + a .w - at) (k .before .loop .distances) (r .last .1 .1 .1 .1 .1 .1 .0))
-    (a .sites .now) (putMid at (at + a .w - at) (k .before .loop .sites) (r .last .1 .1 .1 .1 .1 .1 .1 .0))
+    RowsDone (a .g .kind) (a .w) (a .h) (a .from) (k .before .loop .y) (a .scratch .now) (r .last .1 .1 .1 .1 .1 .0)
+    (a .distances .now) (putMid at (at + a .w - at) (k .before .loop .distances) (r .last .1 .1 .1 .1 .1 .1 .1 .0))
+    (a .sites .now) (putMid at (at + a .w - at) (k .before .loop .sites) (r .last .1 .1 .1 .1 .1 .1 .1 .1 .0))
 stays c =
     let l = lined (c .before) in
     let k = turn (lending (l .before)) in
-    rows-stay (at-start k .pre .0) (k .before .loop .inv .0) (place k) (once l) (c .if1 .taken) refl refl
+    rows-stay (at-start k .pre .0 .parts) (k .before .loop .inv .0) (place k) (once l) (c .if1 .taken) refl refl
 
 same-length : tie.Need-same-length Inv-loop μ-loop
 same-length c = stays c .distances-written .beyond .as-long
@@ -184,8 +187,12 @@ returns c =
       to-in = i .3;
       done = stays c;
       all-done = λ e. absurd (omega (arith, k .loop-test .taken));
-      stopped = λ _. (once-number (at-start k .pre .0) (i .0) (place k) (once l), c .if1 .taken);
+      stopped = λ _. (once-number (at-start k .pre .0 .parts) (i .0) (place k) (once l), c .if1 .taken);
     }
+
+add-at : tie.Need-add-at Inv-loop μ-loop
+add-at c =
+    let k = turn (lending (lined (c .before) .before)) in omega (arith, inside k, cells-few (at-start k .pre .1))
 
 add-y : tie.Need-add-y Inv-loop μ-loop
 add-y c = omega arith
@@ -200,12 +207,13 @@ loop-again c =
     let r = l .one-row in
     let p = at-start k .pre in
     let i = k .before .loop .inv in (
-      rows-more (p .0) (i .0) (place k) (once l) (c .if1 .left) (i .2) (p .4) (p .5)
-          (r .kept .1 .1 .1 .1 .1 .1 .0 ∙ lent-distances k) (r .kept .1 .1 .1 .1 .1 .1 .1 .0 ∙ lent-sites k),
+      rows-more (p .0 .parts) (i .0) (place k) (once l) (c .if1 .left) (i .2) (p .4) (p .5)
+          (r .kept .1 .1 .1 .1 .1 .1 .1 .0 ∙ lent-distances k) (r .kept .1 .1 .1 .1 .1 .1 .1 .1 .0 ∙ lent-sites k),
       omega arith,
       omega (arith, i .2),
       omega arith,
-      length-front (k .before .loop .line) (r .last .1 .1 .1 .1 .1 .0) (at-start k .args .w) (r .kept .1 .1 .1 .1 .1 .0) ∙ i .4,
+      length-front (k .before .loop .line) (r .last .1 .1 .1 .1 .1 .1 .0) (at-start k .args .w)
+          (r .kept .1 .1 .1 .1 .1 .1 .0) ∙ i .4,
     )
 
 same-length-4 : tie.Need-same-length-4 Inv-loop μ-loop
@@ -236,13 +244,14 @@ row-lines-spec =
     μ-loop
     mul-at
     loop-holds
-    add-end
     array-borrow-prefix-line
     slice-aggregate-one-row
+    add-one-row
     mul-one-row
     sub-one-row
     part-one-row-start
     part-one-row-end
+    add-one-row-2
     mul-one-row-2
     sub-one-row-2
     part-one-row-start-2
@@ -252,6 +261,7 @@ row-lines-spec =
     same-length-2
     same-length-3
     returns
+    add-at
     add-y
     loop-less
     loop-again

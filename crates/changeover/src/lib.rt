@@ -1,6 +1,6 @@
 // The public changeover: the tests of its columns and values, then the last place at which the left of two curves of kind 0
 // is no higher. The engine along a line goes by the same crossing and never needs one below zero; here that is an answer
-// too.
+// too. Every accepted call copies the list of squares, for the two that it needs.
 use gauge::crossing::last_euclid;
 use rules::COLUMN_LIMIT;
 use rules::ChangeoverAnswer;

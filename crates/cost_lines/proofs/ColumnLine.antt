@@ -23,7 +23,7 @@ use Rattle.rules.proofs.Measures.{lawful, cost-parts}
 use Rattle.rules.proofs.Refusals.{getD-within}
 use Rattle.rules.proofs.Parts.{put-before}
 use Rattle.gauge.specs.declared.Gauge.{Gauge}
-use Rattle.gauge.specs.Line.{Known, Gauged, Wins, height-at}
+use Rattle.gauge.specs.Line.{Measuring, Gauged, Wins, height-at}
 use Rattle.gauge.proofs.Places.{apart-below}
 use Rattle.rows.proofs.RowLine.{combine-small}
 use Rattle.cost_lines.specs.Lines.{Gathered, winner-word, Scattered}
@@ -53,10 +53,10 @@ module _ {g : Gauge} {w h x : ℕ} {costs values : List ℕ} (P : FitAccepted (g
   marked-value j l e = G .each j (omega arith) ∙ rw (eq-eqb (cost-at w costs x j) mark e)
 
   -- the values of a column are a line
-  pub column-line : {squares : List ℕ} → Known g squares → Gauged g squares values
-  column-line known =
+  pub column-line : {squares : List ℕ} → Measuring g squares → Gauged g squares values
+  column-line measuring =
       record {
-        known = known;
+        measuring = measuring;
         line = record {
           from = omega (arith, P .sides .height-from);
           to = omega (arith, P .sides .height-to);

@@ -22,14 +22,14 @@ use Rattle.rules.proofs.Columns.{row-word-same, cost-step}
 use Rattle.rules.proofs.RowParts.{row-part-long, put-here, put-elsewhere}
 use Rattle.gauge.specs.declared.Gauge.{Gauge}
 use Rattle.gauge.proofs.Places.{apart-below}
-use Rattle.gauge.specs.Line.{Known}
+use Rattle.gauge.specs.Line.{Measuring}
 use Rattle.rows.specs.Row.{Believed, LineRead, LineOut}
 use Rattle.rows.proofs.RowLine.{lift-small, words-part, words-length, words-at}
 use Rattle.cost_lines.specs.Lines.{Priced, Ranked, column-value}
 use Rattle.cost_lines.specs.After.{FitAccepted, ColumnsAfter, RowAfter, RowsAfter, RowMore}
 use Rattle.cost_lines.proofs.ColumnLine.{within-limit}
 
-module _ {g : Gauge} {w h y : ℕ} {costs squares : List ℕ} (scratch : List ℕ) (known : Known g squares)
+module _ {g : Gauge} {w h y : ℕ} {costs squares : List ℕ} (scratch : List ℕ) (measuring : Measuring g squares)
     (P : FitAccepted (g .kind) w h costs) (y-in : y < h) (C : ColumnsAfter (g .kind) w h costs scratch w)
     (room : length scratch ≡ scratch-words w h) where
   -- what a row line asks of the words
@@ -37,7 +37,7 @@ module _ {g : Gauge} {w h y : ℕ} {costs squares : List ℕ} (scratch : List �
   believed =
       let (i₀, j₀, column-in, row-in, unmarked) = P .unmarked in
       record {
-        known = known;
+        measuring = measuring;
         from = P .sides .width-from;
         to = P .sides .width-to;
         before-tail = row-ends w refl y-in;

@@ -8,7 +8,7 @@ ghost use Prim.Native.Nat.{ℕ, _*_, _≤_, _<_};
 ghost use mathlib.Core.Path.{_≡_};
 ghost use lib.ListN.{length, getD};
 ghost use Rattle.rules.specs.Refusals.{scratch-words};
-ghost use Rattle.gauge.specs.Line.{Known};
+ghost use Rattle.gauge.specs.Line.{Measuring};
 ghost use Rattle.cost_lines.specs.Lines.{cell-value, Gathered, winner-word, Scattered};
 ghost use Rattle.cost_lines.specs.After.{FitAccepted, ColumnsAfter, ColumnMore};
 
@@ -71,7 +71,7 @@ fn column_line(
     winners: &mut [u32],
     scratch: &mut [u32],
 )
-    requires { ⌜ Known g (now squares) × FitAccepted (g .kind) w (length (now values)) (now costs) × (x < w)
+    requires { ⌜ Measuring g (now squares) × FitAccepted (g .kind) w (length (now values)) (now costs) × (x < w)
         × (length (now winners) ≡ length (now values))
         × (length (now scratch) ≡ scratch-words w (length (now values))) ⌝ }
     ensures { λ _. ⌜ ColumnMore (g .kind) w (length (now (values .entry))) x (now (costs .entry))
@@ -95,7 +95,7 @@ pub fn all_columns(
     winners: &mut [u32],
     scratch: &mut [u32],
 )
-    requires { ⌜ Known g (now squares) × FitAccepted (g .kind) w (length (now values)) (now costs)
+    requires { ⌜ Measuring g (now squares) × FitAccepted (g .kind) w (length (now values)) (now costs)
         × (length (now winners) ≡ length (now values))
         × (length (now scratch) ≡ scratch-words w (length (now values))) ⌝ }
     ensures { λ _. ⌜ ColumnsAfter (g .kind) w (length (now (values .entry))) (now (costs .entry))

@@ -7,7 +7,7 @@ ghost use mathlib.Core.Path.{_≡_};
 ghost use lib.ListN.{length};
 ghost use Rattle.rules.specs.Limits.{side-limit};
 ghost use Rattle.rules.specs.Refusals.{scratch-words};
-ghost use Rattle.gauge.specs.Line.{Known};
+ghost use Rattle.gauge.specs.Line.{Measuring};
 ghost use Rattle.cost_lines.specs.After.{FitAccepted, RowsAfter};
 
 mod column;
@@ -26,7 +26,7 @@ pub fn columns_and_rows(
     sites: &mut [u32],
     scratch: &mut [u32],
 )
-    requires { ⌜ Known g (now squares) × FitAccepted (g .kind) w h (now costs) × (length (now line) ≡ side-limit)
+    requires { ⌜ Measuring g (now squares) × FitAccepted (g .kind) w h (now costs) × (length (now line) ≡ side-limit)
         × (length (now distances) ≡ w * h) × (length (now sites) ≡ w * h) × (length (now scratch) ≡ scratch-words w h) ⌝ }
     ensures { λ _. ⌜ RowsAfter (g .kind) w h (now (costs .entry)) (now (distances .exit)) (now (sites .exit)) h ⌝ }
 {

@@ -12,7 +12,7 @@ ghost use mathlib.Core.Path.{_≡_};
 ghost use lib.ListN.{length, getD};
 ghost use Rattle.rules.specs.Limits.{side-limit};
 ghost use Rattle.rules.specs.Refusals.{scratch-words};
-ghost use Rattle.gauge.specs.Line.{Known};
+ghost use Rattle.gauge.specs.Line.{Measuring};
 ghost use Rattle.cost_lines.specs.Lines.{Priced, column-value, Ranked};
 ghost use Rattle.cost_lines.specs.After.{FitAccepted, ColumnsAfter, RowsAfter, RowMore};
 
@@ -27,7 +27,7 @@ fn column_value(
     word: u32,
     costs: &[u32],
 ) -> u64
-    requires { ⌜ Known g (now squares) × (y < side-limit) × Priced w (now costs) i word ⌝ }
+    requires { ⌜ Measuring g (now squares) × (y < side-limit) × Priced w (now costs) i word ⌝ }
     ensures { λ r. ⌜ r ≡ column-value (g .kind) w (now (costs .entry)) y i word ⌝ }
 {
     if word == MARK {
@@ -40,7 +40,7 @@ fn column_value(
 
 // Fill for costs: the values of row y from its words.
 fn fill(g: Gauge, squares: &[u32], y: usize, costs: &[u32], words: &[u32], values: &mut [u64])
-    requires { ⌜ Known g (now squares) × (y < side-limit) × (length (now values) ≡ length (now words))
+    requires { ⌜ Measuring g (now squares) × (y < side-limit) × (length (now values) ≡ length (now words))
         × ((i : ℕ) → i < length (now words) → Priced (length (now words)) (now costs) i (getD (now words) i 0)) ⌝ }
     ensures { λ _. ⌜ Ranked (g .kind) y (now (costs .entry)) (now (words .entry)) (now (values .exit)) ⌝ }
 {
@@ -64,7 +64,7 @@ fn row_line(
     distances: &mut [u32],
     sites: &mut [u32],
 )
-    requires { ⌜ Known g (now squares) × FitAccepted (g .kind) (length (now values)) h (now costs) × (y < h)
+    requires { ⌜ Measuring g (now squares) × FitAccepted (g .kind) (length (now values)) h (now costs) × (y < h)
         × ColumnsAfter (g .kind) (length (now values)) h (now costs) (now scratch) (length (now values))
         × (length (now scratch) ≡ scratch-words (length (now values)) h)
         × (length (now distances) ≡ length (now values)) × (length (now sites) ≡ length (now values)) ⌝ }
@@ -89,7 +89,7 @@ pub fn all_rows(
     distances: &mut [u32],
     sites: &mut [u32],
 )
-    requires { ⌜ Known g (now squares) × FitAccepted (g .kind) (length (now values)) h (now costs)
+    requires { ⌜ Measuring g (now squares) × FitAccepted (g .kind) (length (now values)) h (now costs)
         × ColumnsAfter (g .kind) (length (now values)) h (now costs) (now scratch) (length (now values))
         × (length (now scratch) ≡ scratch-words (length (now values)) h)
         × (length (now distances) ≡ length (now values) * h) × (length (now sites) ≡ length (now values) * h) ⌝ }

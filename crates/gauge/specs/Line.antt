@@ -26,13 +26,13 @@ pub record Line (values : List ℕ) : Type 0 where
   pub values-to : (i : ℕ) → i < length values → getD values i 0 ≤ line-limit
 
 -- what a function that measures is given: a gauge whose kind has parts, and the list of squares
-pub record Known (g : Gauge) (squares : List ℕ) : Type 0 where
+pub record Measuring (g : Gauge) (squares : List ℕ) : Type 0 where
   pub parts : HasParts (g .kind)
   pub listed : Squares squares
 
 -- what a function along a line is given: these, and the line
 pub record Gauged (g : Gauge) (squares values : List ℕ) : Type 0 where
-  pub known : Known g squares
+  pub measuring : Measuring g squares
   pub line : Line values
 
 -- of the columns below n, i has the lowest curve at x, and is the least column that has it

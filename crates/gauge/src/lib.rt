@@ -1,6 +1,6 @@
 // The gauge of a line, and what looks inside it: the height of a column's curve, and the place where a column stops
 // holding against one to its right. The engine and the rows ask here and do not go by the kind themselves, so that they
-// are written and proved once for all kinds.
+// are written and proved once for all kinds. Squares are read from the list that is lent with the gauge.
 use crossing::last_euclid;
 use squares::square;
 ghost use Prim.Native.Nat.{_+_, _≤_, _<_};
@@ -9,7 +9,7 @@ ghost use lib.ListN.{length};
 ghost use Rattle.rules.specs.Limits.{side-limit, line-limit, lift-limit};
 ghost use Rattle.rules.specs.Board.{away};
 ghost use Rattle.rules.specs.Measures.{HoldsAt, measure};
-ghost use Rattle.gauge.specs.Line.{measured, Known, Gauged, height-at};
+ghost use Rattle.gauge.specs.Line.{measured, Measuring, Gauged, height-at};
 ghost use Rattle.gauge.specs.Places.{Pair, Last, Place};
 
 pub mod crossing;
@@ -28,7 +28,7 @@ pub fn apart(x: usize, i: usize) -> usize
 
 // What the gauge makes of a difference of columns and a column's value.
 fn combined(g: Gauge, squares: &[u32], dx: usize, v: u64) -> u64
-    requires { ⌜ Known g (now squares) × (dx < side-limit) × (v ≤ line-limit) ⌝ }
+    requires { ⌜ Measuring g (now squares) × (dx < side-limit) × (v ≤ line-limit) ⌝ }
     ensures { λ r. ⌜ r ≡ measured g .combine dx v ⌝ }
 {
     let kind = g.kind;
@@ -44,7 +44,7 @@ fn combined(g: Gauge, squares: &[u32], dx: usize, v: u64) -> u64
 
 // What a difference of rows adds in its column.
 pub fn lifted(g: Gauge, squares: &[u32], dy: usize) -> u64
-    requires { ⌜ Known g (now squares) × (dy < side-limit) ⌝ }
+    requires { ⌜ Measuring g (now squares) × (dy < side-limit) ⌝ }
     ensures { λ r. ⌜ (r ≡ measured g .lift dy) × (r < lift-limit) ⌝ }
 {
     let kind = g.kind;
@@ -94,7 +94,7 @@ fn last_chessboard(n: usize, i: usize, u: usize, a: u64, b: u64) -> u64
 
 // The last place that column i holds, by the gauge.
 fn last(g: Gauge, squares: &[u32], n: usize, i: usize, u: usize, a: u64, b: u64) -> u64
-    requires { ⌜ Known g (now squares) × Pair n i u a b × HoldsAt (measured g) i u a b 0 ⌝ }
+    requires { ⌜ Measuring g (now squares) × Pair n i u a b × HoldsAt (measured g) i u a b 0 ⌝ }
     ensures { λ r. ⌜ (r ≤ line-limit + line-limit) × Last (measured g) n i u a b r ⌝ }
 {
     let kind = g.kind;

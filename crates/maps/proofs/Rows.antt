@@ -18,7 +18,7 @@ use Rattle.rules.proofs.Columns.{row-word-same}
 use Rattle.rules.proofs.Parts.{beyond-more, beyond-both}
 use Rattle.rules.proofs.RowParts.{put-here, put-elsewhere, put-past}
 use Rattle.gauge.specs.declared.Gauge.{Gauge}
-use Rattle.gauge.specs.Line.{measured, Known}
+use Rattle.gauge.specs.Line.{measured, Measuring}
 use Rattle.rows.specs.Row.{Believed, RowMade}
 use Rattle.maps.specs.Rows.{word-of, Believable, RowsMade}
 
@@ -35,13 +35,14 @@ rows-none scratch d s =
 
 module _ {g : Gauge} {w h : ℕ} {before d s : List ℕ} (sides : Sides w h) where
   -- what the next row line asks
-  pub row-believed : {y : ℕ} {squares after d′ s′ : List ℕ} → Known g squares → Believable w h before
-      → w * h + w + w ≤ length before → y < h → RowsMade g w h y before after d d′ s s′ → Believed g squares (y * w) (w * h) after w
-  row-believed {y} {after = after} known B room l R =
+  pub row-believed : {y : ℕ} {squares after d′ s′ : List ℕ} → Measuring g squares → Believable w h before
+      → w * h + w + w ≤ length before → y < h → RowsMade g w h y before after d d′ s s′
+      → Believed g squares (y * w) (w * h) after w
+  row-believed {y} {after = after} measuring B room l R =
       let same : (i : ℕ) → i < w → getD after (y * w + i) 0 ≡ word-of w before y i =
       λ i h. R .kept (y * w + i) (omega (arith, row-ends w refl l)) in
       record {
-        known = known;
+        measuring = measuring;
         from = sides .width-from;
         to = sides .width-to;
         before-tail = row-ends w refl l;
@@ -118,11 +119,11 @@ module _ {g : Gauge} {w h : ℕ} {before d s : List ℕ} (sides : Sides w h) whe
         next = omega arith
 
   -- the same with the row's first cell by another name, as the loop has it
-  pub believed-at : {y : ℕ} {squares after d′ s′ : List ℕ} (at : ℕ) → at ≡ y * w → Known g squares → Believable w h before
-      → w * h + w + w ≤ length before → y < h → RowsMade g w h y before after d d′ s s′
+  pub believed-at : {y : ℕ} {squares after d′ s′ : List ℕ} (at : ℕ) → at ≡ y * w → Measuring g squares
+      → Believable w h before → w * h + w + w ≤ length before → y < h → RowsMade g w h y before after d d′ s s′
       → Believed g squares at (w * h) after w
-  believed-at {y} {squares} {after} at e known B room l R =
-      subst (λ k. Believed g squares k (w * h) after w) (sym e) (row-believed known B room l R)
+  believed-at {y} {squares} {after} at e measuring B room l R =
+      subst (λ k. Believed g squares k (w * h) after w) (sym e) (row-believed measuring B room l R)
 
   pub rows-more-at : {y : ℕ} {after after′ d′ s′ : List ℕ} (at : ℕ) (drow srow : List ℕ) → at ≡ y * w → y < h
       → w * h ≤ length d → w * h ≤ length s → length drow ≡ w → length srow ≡ w

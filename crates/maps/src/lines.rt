@@ -5,7 +5,7 @@ use rules::SIDE_LIMIT;
 ghost use Prim.Native.Nat.{_+_, _*_, _≤_};
 ghost use lib.ListN.{length};
 ghost use Rattle.rules.specs.Board.{Sides};
-ghost use Rattle.gauge.specs.Line.{Known};
+ghost use Rattle.gauge.specs.Line.{Measuring};
 ghost use Rattle.maps.specs.Rows.{Believable, RowsMade};
 
 // All row lines, from the top. The words of the rows stand in the scratch's first w·h words, and the 2w after them are
@@ -19,7 +19,7 @@ pub fn all_rows(
     sites: &mut [u32],
     scratch: &mut [u32],
 )
-    requires { ⌜ Known g (now squares) × Sides w h × (w * h ≤ length (now distances)) × (w * h ≤ length (now sites))
+    requires { ⌜ Measuring g (now squares) × Sides w h × (w * h ≤ length (now distances)) × (w * h ≤ length (now sites))
         × (w * h + w + w ≤ length (now scratch)) × Believable w h (now scratch) ⌝ }
     ensures { λ _. ⌜ RowsMade g w h h (now (scratch .entry)) (now (scratch .exit)) (now (distances .entry)) (now (distances .exit))
         (now (sites .entry)) (now (sites .exit)) ⌝ }

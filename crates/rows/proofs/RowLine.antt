@@ -102,7 +102,7 @@ module _ {g : Gauge} {at tail : ℕ} {squares scratch values : List ℕ} (L : Li
   pub gauged : Gauged g squares values
   gauged =
       record {
-        known = L .believed .known;
+        measuring = L .believed .measuring;
         line = record {
           from = L .believed .from;
           to = L .believed .to;
@@ -127,7 +127,7 @@ module _ {g : Gauge} {at tail : ℕ} {squares scratch values : List ℕ} (L : Li
   unfolding height-at
   marked-height i x h e =
       subst (λ b. b ≤ height-at g values i x) (L .marked i h e)
-      (lawful (g .kind) (L .believed .known .parts) .stands (away x i) (getD values i 0))
+      (lawful (g .kind) (L .believed .measuring .parts) .stands (away x i) (getD values i 0))
 
   -- no marked column wins
   winner-named : {x i : ℕ} → x < length values → Wins (height-at g values) (length values) x i
@@ -188,7 +188,8 @@ module _ {g : Gauge} {at tail : ℕ} {squares scratch values : List ℕ} (L : Li
         }
 
 module _ {g : Gauge} {y at tail : ℕ} {squares scratch values : List ℕ}
-    (B : Believed g squares at tail scratch (length values)) (row-in : y < side-limit) (F : Filled g y (words-part at (length values) scratch) values) where
+    (B : Believed g squares at tail scratch (length values)) (row-in : y < side-limit)
+    (F : Filled g y (words-part at (length values) scratch) values) where
   -- what fill has put for column i
   filled : (i : ℕ) → i < length values → getD values i 0 ≡ value-of g y (getD scratch (at + i) 0)
   filled i h = F .each i (omega (arith, words-length B)) ∙ ap (value-of g y) (words-at B i h)

@@ -12,7 +12,7 @@ use Rattle.rules.specs.Board.{cell, away}
 use Rattle.rules.specs.Columns.{RowWord}
 use Rattle.rules.specs.Calls.{Beyond}
 use Rattle.gauge.specs.declared.Gauge.{Gauge}
-use Rattle.gauge.specs.Line.{measured, Known, height-at}
+use Rattle.gauge.specs.Line.{measured, Measuring, height-at}
 
 -- a column word that can be believed: a row below h, or the mark
 abbrev pub Named : ℕ → ℕ → Type 0
@@ -47,10 +47,10 @@ pub record Sites (words winners sites : List ℕ) : Type 0 where
   pub site : (x : ℕ) → x < length words
       → getD sites x 0 ≡ cell (length words) (getD winners x 0) (getD words (getD winners x 0) 0)
 
--- what is asked of the scratch: the w words of a row from `at` on, each a row or the mark and one of them a row, and 2w
--- free words from `tail` on
+-- what a row line is given: what it measures with, and of the scratch the w words of a row from `at` on, each a row or the
+-- mark and one of them a row, and 2w free words from `tail` on
 pub record Believed (g : Gauge) (squares : List ℕ) (at tail : ℕ) (scratch : List ℕ) (w : ℕ) : Type 0 where
-  pub known : Known g squares
+  pub measuring : Measuring g squares
   pub from : 1 ≤ w
   pub to : w ≤ side-limit
   pub before-tail : at + w ≤ tail

@@ -14,13 +14,13 @@ ghost use mathlib.Core.Path.{_≡_};
 ghost use lib.ListN.{length, getD};
 ghost use Rattle.rules.specs.Limits.{side-limit};
 ghost use Rattle.rules.specs.Board.{cell};
-ghost use Rattle.gauge.specs.Line.{Known, Gauged, height-at};
+ghost use Rattle.gauge.specs.Line.{Measuring, Gauged, height-at};
 ghost use Rattle.rows.specs.Row.{Named, value-of, Filled, Winners, Heights, Chosen, Sites, Believed, LineRead, LineOut, RowMade};
 
 // What a column word stands for in row y: its difference of rows lifted, or a value above every true one for a column with
 // no feature.
 fn value(g: Gauge, squares: &[u32], y: usize, word: u32) -> u64
-    requires { ⌜ Known g (now squares) × (y < side-limit) × Named side-limit word ⌝ }
+    requires { ⌜ Measuring g (now squares) × (y < side-limit) × Named side-limit word ⌝ }
     ensures { λ r. ⌜ r ≡ value-of g y word ⌝ }
 {
     if word == MARK {
@@ -31,7 +31,7 @@ fn value(g: Gauge, squares: &[u32], y: usize, word: u32) -> u64
 
 // Fill for pictures: the values of row y from its words.
 fn fill(g: Gauge, squares: &[u32], y: usize, words: &[u32], values: &mut [u64])
-    requires { ⌜ Known g (now squares) × (y < side-limit) × (length (now values) ≡ length (now words))
+    requires { ⌜ Measuring g (now squares) × (y < side-limit) × (length (now values) ≡ length (now words))
         × ((i : ℕ) → i < length (now words) → Named side-limit (getD (now words) i 0)) ⌝ }
     ensures { λ _. ⌜ Filled g y (now (words .entry)) (now (values .exit)) ⌝ }
 {

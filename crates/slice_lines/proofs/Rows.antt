@@ -21,19 +21,19 @@ use Rattle.rules.proofs.RowParts.{put-here, put-elsewhere, put-beyond}
 use Rattle.rules.proofs.SliceRows.{row-passes, row-number-same}
 use Rattle.rules.proofs.Slices.{row-by-parts}
 use Rattle.gauge.specs.declared.Gauge.{Gauge}
-use Rattle.gauge.specs.Line.{Known}
+use Rattle.gauge.specs.Line.{Measuring}
 use Rattle.rows.specs.Row.{Believed}
 use Rattle.slice_lines.specs.Lines.{RowPlace, RowOnce, RowsWritten, RowsDone}
 
 -- what the row line asks, of a row that can be done
-pub row-believed : {g : Gauge} {w h y at : ℕ} {squares scratch : List ℕ} → Known g squares
+pub row-believed : {g : Gauge} {w h y at : ℕ} {squares scratch : List ℕ} → Measuring g squares
     → RowPlace w h y at (length scratch) → 0 ≡ answer (row-rows w h scratch y) → Believed g squares at (w * h) scratch w
-row-believed {w = w} {h} {y} {at} {scratch = scratch} known P can =
+row-believed {w = w} {h} {y} {at} {scratch = scratch} measuring P can =
     let (named, one) = row-passes w h scratch y (sym can) in
     let (i₀, i₀-in, i₀-named) = one in
     let same : (i : ℕ) → getD scratch (at + i) 0 ≡ word-at w scratch i y = λ i. ap (λ n. getD scratch (n + i) 0) (P .at-is) in
     record {
-      known = known;
+      measuring = measuring;
       from = P .sides .width-from;
       to = P .sides .width-to;
       before-tail = row-ends w (P .at-is) (P .row-in);

@@ -7,7 +7,7 @@ ghost use Prim.Native.Nat.{ℕ, _+_, _*_, _≤_, max};
 ghost use mathlib.Core.Path.{_≡_};
 ghost use lib.ListN.{length};
 ghost use Rattle.rules.specs.Board.{Sides};
-ghost use Rattle.gauge.specs.Line.{Known};
+ghost use Rattle.gauge.specs.Line.{Measuring};
 ghost use Rattle.rules.specs.Refusals.{answer};
 ghost use Rattle.rules.specs.Slices.{row-rows};
 ghost use Rattle.slice_lines.specs.Lines.{rows-needed, MostNamed, RowPlace, RowOnce, RowsEnded};
@@ -72,7 +72,7 @@ fn one_row(
     distances: &mut [u32],
     sites: &mut [u32],
 ) -> u32
-    requires { ⌜ Known g (now squares) × RowPlace (length (now values)) h y at (length (now scratch))
+    requires { ⌜ Measuring g (now squares) × RowPlace (length (now values)) h y at (length (now scratch))
         × (length (now distances) ≡ length (now values)) × (length (now sites) ≡ length (now values)) ⌝ }
     ensures { λ r. ⌜ RowOnce g (length (now (values .entry))) h y at (now (scratch .entry)) (now (scratch .exit))
         (now (distances .entry)) (now (distances .exit)) (now (sites .entry)) (now (sites .exit)) r ⌝ }
@@ -98,7 +98,7 @@ pub fn row_lines(
     sites: &mut [u32],
     scratch: &mut [u32],
 ) -> RowEnd
-    requires { ⌜ Known g (now squares) × Sides w h × (from ≤ to) × (to ≤ h) × (w * h ≤ length (now distances))
+    requires { ⌜ Measuring g (now squares) × Sides w h × (from ≤ to) × (to ≤ h) × (w * h ≤ length (now distances))
         × (w * h ≤ length (now sites)) × (w * h + w + w ≤ length (now scratch)) ⌝ }
     ensures { λ r. ⌜ RowsEnded (g .kind) w h from to (now (scratch .entry)) (now (scratch .exit))
         (now (distances .entry)) (now (distances .exit)) (now (sites .entry)) (now (sites .exit)) (r .number) (r .row) ⌝ }

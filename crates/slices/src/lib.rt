@@ -87,7 +87,7 @@ fn reach(w: usize, h: usize, line: usize, budget: usize) -> usize
     line + lesser(budget, w + h - line)
 }
 
-// The rows among the lines from `line` up to `end`.
+// The rows among the lines from `line` up to `end`. Only rows need squares, so the list is copied here and not before.
 fn rows_done(
     kind: u32,
     w: usize,

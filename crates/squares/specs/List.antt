@@ -6,5 +6,5 @@ use lib.ListN.{length, getD}
 use Rattle.rules.specs.Limits.{side-limit}
 
 pub record Squares (list : List ℕ) : Type 0 where
-  pub all : length list ≡ side-limit
+  pub as-long : length list ≡ side-limit
   pub entry : (k : ℕ) → k < side-limit → getD list k 0 ≡ k * k

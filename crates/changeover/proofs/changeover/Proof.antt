@@ -6,6 +6,7 @@ use native.Mathlib.Omega.{arith}
 use mir.Syntax.{w32}
 use mir.ValLaws.{toZ-pos, toZ-ofZ}
 use Rattle.rules.proofs.Refusals.{Comparable, changeover-passes}
+use Rattle.squares.proofs.Table.{Square, squared}
 use Rattle.changeover.proofs.Answers.{below-fits, refused, answered-up, up-small, answered-down, down-small}
 use borrow.Author.Needs.{needs}
 use Rattle.changeover.proofs.changeover.Statement.{statement}
@@ -29,6 +30,15 @@ first c = c .before .before
 good : (c : tie.Else4) → let a = at-start c .args in Comparable (a .i) (a .u) (a .a) (a .b)
 good c = omega arith
 
+-- what is read from the list are the squares of the columns
+right : (c : tie.After-square) → let a = at-start (c .before .before .before) .args in Square (a .u) (c .square .result)
+right c =
+    let l = c .before .before in
+    squared (l .list-of-squares .ensures) (omega (arith, good (l .before) .column-to)) (c .square .ensures)
+
+left : (c : tie.After-square2) → let a = at-start (tested c) .args in Square (a .i) (c .square2 .result)
+left c = squared (listed c .list-of-squares .ensures) (omega (arith, good (tested c))) (c .square2 .ensures)
+
 -- what is divided, in the squares' own terms
 rounded : (c : tie.Else5) → let x = at-start (tested (c .before)) .args in
     (c .before .square2 .result + x .a - (first (c .before) .square .result + x .b) + 2 * (x .u - x .i) - 1)
@@ -37,7 +47,7 @@ rounded : (c : tie.Else5) → let x = at-start (tested (c .before)) .args in
 rounded c =
     let x = at-start (tested (c .before)) .args in
     ap₂ (λ i u. (i + x .a - (u + x .b) + 2 * (x .u - x .i) - 1) / (2 * (x .u - x .i)))
-    (c .before .square2 .ensures .0) (first (c .before) .square .ensures .0)
+    (left (c .before) .0) (right (first (c .before)) .0)
 
 returns : tie.Need-returns
 returns c = refused _ (λ e. omega (arith, changeover-passes (c .before .args .i) (c .before .args .u) (c .before .args .a) (c .before .args .b) e))
@@ -55,26 +65,27 @@ list-of-squares-requires : tie.Need-list-of-squares-requires
 list-of-squares-requires c κs = tt
 
 slice-aggregate-square : tie.Need-slice-aggregate-square
-slice-aggregate-square c = sym (c .before .list-of-squares .ensures .all)
+slice-aggregate-square c = sym (c .before .list-of-squares .ensures .as-long)
 
 square-requires : tie.Need-square-requires
-square-requires c κs = (c .before .list-of-squares .ensures, omega (arith, good (c .before .before)))
+square-requires c κs =
+    let l = c .before in omega (arith, l .list-of-squares .ensures .as-long, good (l .before) .column-to)
 
 add-top : tie.Need-add-top
-add-top c = search needs
+add-top c = omega (arith, right c .1, good (c .before .before .before) .right-to)
 
 slice-aggregate-square-2 : tie.Need-slice-aggregate-square-2
-slice-aggregate-square-2 c = sym (c .before .before .before .list-of-squares .ensures .all)
+slice-aggregate-square-2 c = sym (c .before .before .before .list-of-squares .ensures .as-long)
 
 square-requires-2 : tie.Need-square-requires-2
 square-requires-2 c κs =
-    let l = c .before .before .before in (l .list-of-squares .ensures, omega (arith, good (l .before)))
+    let l = c .before .before .before in omega (arith, l .list-of-squares .ensures .as-long, good (l .before))
 
 add-low : tie.Need-add-low
-add-low c = search needs
+add-low c = omega (arith, left c .1, good (tested c) .left-to)
 
 slice-aggregate-last-euclid : tie.Need-slice-aggregate-last-euclid
-slice-aggregate-last-euclid c = sym (listed (c .before .before) .list-of-squares .ensures .all)
+slice-aggregate-last-euclid c = sym (listed (c .before .before) .list-of-squares .ensures .as-long)
 
 last-euclid-requires : tie.Need-last-euclid-requires
 last-euclid-requires c κs =
@@ -85,7 +96,7 @@ last-euclid-requires c κs =
       omega (arith, g .column-to),
       omega (arith, g .left-to),
       omega (arith, g .right-to),
-      omega (arith, c .before .if5 .taken, s .square2 .ensures, first s .square .ensures),
+      omega (arith, c .before .if5 .taken, left s .0, right (first s) .0),
     )
 
 cast-t26 : tie.Need-cast-t26
@@ -96,7 +107,7 @@ returns-5 c =
     let s = c .before .before .before in
     let g = good (tested s) in
     rw (toZ-pos w32 (c .last-euclid .result) (up-small g (c .last-euclid .ensures)))
-    (answered-up g (omega (arith, s .square2 .ensures, first s .square .ensures)) (c .last-euclid .ensures))
+    (answered-up g (omega (arith, left s .0, right (first s) .0)) (c .last-euclid .ensures))
 
 sub-d : tie.Need-sub-d
 sub-d c = search needs
@@ -111,7 +122,7 @@ sub-below : tie.Need-sub-below
 sub-below c = search needs
 
 add-below : tie.Need-add-below
-add-below c = search needs
+add-below c = omega (arith, left (c .before) .1, good (tested (c .before)))
 
 sub-below-2 : tie.Need-sub-below-2
 sub-below-2 c = search needs
@@ -131,7 +142,7 @@ returns-6 c =
     let g = good (tested (c .before)) in
     let h = down-small g (rounded c) in
     rw (toZ-pos w32 _ h, toZ-ofZ w32 _ (below-fits _ h))
-    (answered-down g (omega (arith, c .before .square2 .ensures, first (c .before) .square .ensures)) (rounded c))
+    (answered-down g (omega (arith, left (c .before) .0, right (first (c .before)) .0)) (rounded c))
 
 pub changeover-spec : {M : Type 1} → statement M
 changeover-spec =

@@ -34,7 +34,7 @@ scratch-words-requires : tie.Need-scratch-words-requires
 scratch-words-requires c κs = search needs
 
 slice-aggregate-columns-and-rows : tie.Need-slice-aggregate-columns-and-rows
-slice-aggregate-columns-and-rows c = sym (c .before .before .list-of-squares .ensures .all)
+slice-aggregate-columns-and-rows c = sym (c .before .before .list-of-squares .ensures .as-long)
 
 slice-aggregate-columns-and-rows-2 : tie.Need-slice-aggregate-columns-and-rows-2
 slice-aggregate-columns-and-rows-2 c = search needs

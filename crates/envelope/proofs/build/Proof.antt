@@ -56,7 +56,7 @@ loop-again c = let i = c .before .before .before .before .before .loop .inv in (
   record { gauged = i .0 .gauged; room = c .before .before .turn .kept .1 .1 .1 .0 ∙ i .0 .room },
   omega arith,
   omega arith,
-  turned _ (i .3) (initial _ (i .0 .gauged .known .parts) _ _) (c .before .before .turn .ensures),
+  turned _ (i .3) (initial _ (i .0 .gauged .measuring .parts) _ _) (c .before .before .turn .ensures),
 )
 
 same-length : tie.Need-same-length Inv-loop μ-loop

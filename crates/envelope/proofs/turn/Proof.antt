@@ -21,7 +21,7 @@ begin-requires : tie.Need-begin-requires
 begin-requires c κs =
     let p = at-start (c .before) .pre in
     let k = c .before .keep .ensures in
-    (p .0, p .1, omega (arith, k .most, p .2 .few), against _ (p .2) (initial _ (p .0 .gauged .known .parts) _ _) k)
+    (p .0, p .1, omega (arith, k .most, p .2 .few), against _ (p .2) (initial _ (p .0 .gauged .measuring .parts) _ _) k)
 
 same-length : tie.Need-same-length
 same-length c = search needs

@@ -2,6 +2,7 @@
 use mathlib.Core.Path.{_≡_, refl, ap}
 use Prim.Native.Nat.{_+_}
 use native.Mathlib.Omega.{arith}
+use Rattle.squares.proofs.Table.{Square, squared}
 use Rattle.gauge.proofs.Places.{third-kind}
 use borrow.Author.Needs.{needs}
 use Rattle.gauge.proofs.combined.Statement.{statement}
@@ -10,11 +11,15 @@ use Rattle.gauge.proofs.combined.Tie as tie
 square-requires : tie.Need-square-requires
 square-requires c κs = search needs
 
+-- what was read is the square
+read : (c : tie.After-square) → Square (c .before .before .before .args .dx) (c .square .result)
+read c = let p = c .before .before .before .pre in squared (p .0 .listed) (p .1) (c .square .ensures)
+
 add-result : tie.Need-add-result
-add-result c = search needs
+add-result c = omega (arith, read c .1, c .before .before .before .pre .2)
 
 returns : tie.Need-returns
-returns c = rw (c .before .if1 .taken) (ap (λ k. k + c .before .before .before .args .v) (c .square .ensures .0))
+returns c = rw (c .before .if1 .taken) (ap (λ k. k + c .before .before .before .args .v) (read c .0))
 
 add-result-2 : tie.Need-add-result-2
 add-result-2 c = search needs

@@ -24,8 +24,11 @@ shared-slice-read-combined c = search needs
 combined-requires : tie.Need-combined-requires
 combined-requires c κs =
     let a = at-start (c .before) .args in
-    let p = at-start (c .before) .pre in
-    (p .0 .known, omega (arith, c .before .apart .ensures, apart-below (a .x) (a .i)), p .0 .line .values-to (a .i) (p .1))
+    let p = at-start (c .before) .pre in (
+      p .0 .measuring,
+      omega (arith, c .before .apart .ensures, apart-below (a .x) (a .i)),
+      p .0 .line .values-to (a .i) (p .1),
+    )
 
 returns : tie.Need-returns
 unfolding height-at

@@ -25,7 +25,7 @@ unfolding height-at
 last-requires c κs = let p = c .before .before .before .before .pre in
     let i = c .before .before .before .before .args .i in
     let u = c .before .before .before .before .args .u in (
-      p .0 .known,
+      p .0 .measuring,
       record {
         apart = p .1;
         column-in = p .2;

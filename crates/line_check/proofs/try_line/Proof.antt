@@ -17,7 +17,7 @@ list-of-squares-requires : tie.Need-list-of-squares-requires
 list-of-squares-requires c κs = tt
 
 slice-aggregate-winners-of : tie.Need-slice-aggregate-winners-of
-slice-aggregate-winners-of c = sym (c .before .list-of-squares .ensures .all)
+slice-aggregate-winners-of c = sym (c .before .list-of-squares .ensures .as-long)
 
 winners-of-requires : tie.Need-winners-of-requires
 winners-of-requires c κs =
@@ -26,7 +26,10 @@ winners-of-requires c κs =
     let p = at-start f .pre in
     let long = sym (f .fill .kept .1 .0) in (
       record {
-        gauged = record { known = record { parts = p .0; listed = l .list-of-squares .ensures }; line = f .fill .ensures };
+        gauged = record {
+          measuring = record { parts = p .0; listed = l .list-of-squares .ensures };
+          line = f .fill .ensures;
+        };
         room = p .3 ∙ ap₂ _+_ long long;
       },
       p .4 ∙ long,

@@ -24,7 +24,7 @@ list-of-squares-requires : tie.Need-list-of-squares-requires
 list-of-squares-requires c κs = tt
 
 slice-aggregate-all-rows : tie.Need-slice-aggregate-all-rows
-slice-aggregate-all-rows c = sym (c .before .list-of-squares .ensures .all)
+slice-aggregate-all-rows c = sym (c .before .list-of-squares .ensures .as-long)
 
 all-rows-requires : tie.Need-all-rows-requires
 all-rows-requires c κs =

@@ -50,7 +50,7 @@ part-fill-end c = search needs
 fill-requires : tie.Need-fill-requires
 fill-requires c κs =
     let p = known (c .before .before .before) .pre in
-    (p .0 .known, p .1, sym (words-length (p .0)), words-named (p .0))
+    (p .0 .measuring, p .1, sym (words-length (p .0)), words-named (p .0))
 
 line-out-requires : tie.Need-line-out-requires
 line-out-requires c κs =

@@ -24,7 +24,7 @@ list-of-squares-requires : tie.Need-list-of-squares-requires
 list-of-squares-requires c κs = tt
 
 slice-aggregate-row-lines : tie.Need-slice-aggregate-row-lines
-slice-aggregate-row-lines c = sym (c .before .list-of-squares .ensures .all)
+slice-aggregate-row-lines c = sym (c .before .list-of-squares .ensures .as-long)
 
 row-lines-requires : tie.Need-row-lines-requires
 row-lines-requires c κs =
@@ -61,8 +61,9 @@ returns c =
     let r = l .row-lines in
     let second = l .before .before .before .before .before .before in
     let told = subst₂ (λ from to. RowsEnded (a .kind) (a .w) (a .h) from to (a .scratch .now)
-    (r .last .1 .1 .1 .1 .1 .1 .1 .1 .0) (a .distances .now) (r .last .1 .1 .1 .1 .1 .1 .0) (a .sites .now) (r .last .1 .1 .1 .1 .1 .1 .1 .0) (r .result .number)
-    (r .result .row)) (second .before .rows-before .ensures) (second .rows-before2 .ensures) (r .ensures) in
+    (r .last .1 .1 .1 .1 .1 .1 .1 .1 .0) (a .distances .now) (r .last .1 .1 .1 .1 .1 .1 .0) (a .sites .now)
+    (r .last .1 .1 .1 .1 .1 .1 .1 .0) (r .result .number) (r .result .row)) (second .before .rows-before .ensures)
+    (second .rows-before2 .ensures) (r .ensures) in
     let row : a .w + r .result .row - a .w ≡ r .result .row = omega arith in (
       omega arith,
       subst (RowsEnded (a .kind) (a .w) (a .h) (a .line - a .w) (a .end - a .w) (a .scratch .now)

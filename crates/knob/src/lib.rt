@@ -53,7 +53,7 @@ pub fn open(setting: Setting) -> OpeningAnswer
     OpeningAnswer::Whole { a, b }
 }
 
-// Row 4: "clear-map slices unequal, empty or over 262,144".
+// Row 4: "clear-map slices unequal, empty or over" the limit.
 fn bad_slices(squares: usize, clear: usize) -> bool
     ensures { λ r. ⌜ r ≡ bad-slices squares clear ⌝ }
 {

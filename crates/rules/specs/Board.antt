@@ -7,7 +7,7 @@ use Prim.Native.Nat.{ℕ, _+_, _-_, _*_, _/_, _%_, _≤_}
 use lib.ListN.{getD}
 use Rattle.rules.specs.Limits.{side-limit, mark}
 
--- "Width W and height H are each 1 to 512."
+-- "Width W and height H are each 1 to" the side limit
 pub record Sides (w h : ℕ) : Type 0 where
   pub width-from : 1 ≤ w
   pub width-to : w ≤ side-limit

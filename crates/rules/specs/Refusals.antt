@@ -38,7 +38,7 @@ some (suc n) p = p n || some n p
 abbrev pub scratch-words : ℕ → ℕ → ℕ
 scratch-words w h = w * h + 2 * w + 2 * h
 
--- 1: "W or H is 0 or above 512"
+-- 1: "W or H is 0 or above" the side limit
 unfoldable pub bad-sides : ℕ → ℕ → Bool
 bad-sides w h = eqb w 0 || eqb h 0 || ltb side-limit w || ltb side-limit h
 
@@ -59,7 +59,7 @@ bad-buffers w h picture distances sites scratch =
 unfoldable pub bad-path : ℕ → ℕ → ℕ → Bool
 bad-path w h path = ltb path (w * h)
 
--- 4: "clear-map slices unequal, empty or over 262,144"
+-- 4: "clear-map slices unequal, empty or over" the clear-map limit
 unfoldable pub bad-slices : ℕ → ℕ → Bool
 bad-slices squares clear = not (eqb squares clear) || eqb squares 0 || ltb clear-limit squares
 
@@ -90,7 +90,7 @@ good-value word =
 unfoldable pub bad-setting : Setting → Bool
 bad-setting s = not (good-value (pitch-word s)) || not (good-value (radius-word s))
 
--- 9: "changeover with i ≥ u, u > 511, or a value over 2,000,000"
+-- 9: "changeover with i ≥ u", u above the column limit, "or a value over" the value limit
 unfoldable pub bad-changeover : ℕ → ℕ → ℕ → ℕ → Bool
 bad-changeover i u a b = leb u i || ltb column-limit u || ltb value-limit a || ltb value-limit b
 

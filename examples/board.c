@@ -1,6 +1,6 @@
 /*
- * A small board from end to end: its map, the same map in slices, its clear map, its widest lane, and a call that is
- * refused.
+ * A small board from end to end: its map, the same map in slices, its clear map, its widest lane. Then the longest board
+ * that is accepted, and one that is refused.
  *
  * After `rt staticlib olavinthu`, from the repository's root:
  *
@@ -134,6 +134,26 @@ static int show_lane(void)
     return 1;
 }
 
+/* How great a word can be: a bass board, both sides as long as they may be, with one bore in the corner. */
+static int show_longest(void)
+{
+    static uint8_t bass[OLV_SIDE_LIMIT * OLV_SIDE_LIMIT];
+    static uint32_t words[COUNT(bass)];
+    static uint32_t bores[COUNT(bass)];
+    static uint32_t room[OLV_SCRATCH_COUNT(OLV_SIDE_LIMIT, OLV_SIDE_LIMIT)];
+    const uint32_t farthest = 8380418;
+
+    bass[0] = 1;
+    bores[COUNT(bores) - 1] = OLV_MARK;
+    if (olv_map(OLV_SIDE_LIMIT, OLV_SIDE_LIMIT, OLV_EUCLID, 0, 0, bass, COUNT(bass), words, COUNT(words), bores,
+                COUNT(bores), room, COUNT(room)) != OLV_ACCEPTED) {
+        return 0;
+    }
+    printf("\n%" PRIu32 " by %" PRIu32 " cells with a bore in the first: %" PRIu32 " in the last\n", OLV_SIDE_LIMIT,
+           OLV_SIDE_LIMIT, words[COUNT(words) - 1]);
+    return words[COUNT(words) - 1] == farthest && bores[COUNT(bores) - 1] == 0;
+}
+
 /* A refusal: its number alone. */
 static int show_refusal(void)
 {
@@ -146,7 +166,7 @@ static int show_refusal(void)
 
 int main(void)
 {
-    if (show_map() && show_slices() && show_clear() && show_lane() && show_refusal()) {
+    if (show_map() && show_slices() && show_clear() && show_lane() && show_longest() && show_refusal()) {
         return 0;
     }
     fputs("board: an answer is not as it should be\n", stderr);

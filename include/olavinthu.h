@@ -26,7 +26,7 @@
 #include <stdint.h>
 
 /* Goes up when a name, an order or a meaning below changes. CHANGELOG.md says what each edition brought. */
-#define OLV_EDITION 1
+#define OLV_EDITION 2
 
 /* The kinds of distance, with dx and dy the absolute differences of the columns and of the rows. */
 #define OLV_EUCLID UINT32_C(0)     /* dx^2 + dy^2, squared and never rooted */
@@ -54,13 +54,13 @@
 #define OLV_REFUSED_WORD UINT32_C(13)      /* a stop: a scratch word of that row is neither below h nor OLV_MARK */
 
 /* The limits. Each is the greatest that is accepted. */
-#define OLV_SIDE_LIMIT UINT32_C(512)      /* a board's width or height; the least is 1 */
-#define OLV_COST_LIMIT UINT32_C(1000000)  /* a cost */
-#define OLV_WEIGHT_LIMIT UINT32_C(255)    /* the weight d1; the least is 1 */
-#define OLV_COLUMN_LIMIT UINT32_C(511)    /* a column of a changeover */
-#define OLV_VALUE_LIMIT UINT32_C(2000000) /* a value of a changeover */
-#define OLV_KNOB_LIMIT UINT32_C(4096)     /* a pitch or a radius, in 1/64 mm; the least is 1 */
-#define OLV_CLEAR_LIMIT UINT32_C(262144)  /* the cells of a clear map; the fewest are 1 */
+#define OLV_SIDE_LIMIT UINT32_C(2048)      /* a board's width or height; the least is 1 */
+#define OLV_COST_LIMIT UINT32_C(1000000)   /* a cost */
+#define OLV_WEIGHT_LIMIT UINT32_C(255)     /* the weight d1; the least is 1 */
+#define OLV_COLUMN_LIMIT UINT32_C(2047)    /* a column of a changeover */
+#define OLV_VALUE_LIMIT UINT32_C(17000000) /* a value of a changeover */
+#define OLV_KNOB_LIMIT UINT32_C(4096)      /* a pitch or a radius, in 1/64 mm; the least is 1 */
+#define OLV_CLEAR_LIMIT UINT32_C(4194304)  /* the cells of a clear map; the fewest are 1 */
 
 /*
  * The word that stands for none: a cost that is no feature, a site that is not named, a path word past the lane, a
@@ -72,7 +72,7 @@
 #define OLV_SCRATCH_COUNT(w, h) ((size_t)(w) * (h) + 2 * (size_t)(w) + 2 * (size_t)(h))
 
 /* The most stack that a call takes below its caller's frame, in bytes. Measured with room to spare, and not proved. */
-#define OLV_STACK_BYTES 8192
+#define OLV_STACK_BYTES 32768
 
 #ifdef __cplusplus
 extern "C" {

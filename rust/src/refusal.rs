@@ -26,7 +26,7 @@ impl Refusal {
 
     fn sentence(self) -> &'static str {
         match self.number {
-            1 => "the width or the height is 0 or above 512",
+            1 => "the width or the height is 0 or above 2,048",
             2 => "there is no such kind for this map",
             3 => "the chamfer weights break 1 ≤ d1 ≤ 255, d1 ≤ d2 ≤ 2·d1",
             4 => "a list has a length that does not fit the call",
@@ -34,7 +34,7 @@ impl Refusal {
             6 => "no cell is bored, every cost is the mark, or every scratch word of a slice's row is",
             7 => "an end of the lane is not on the board",
             8 => "the pitch or the radius is not a multiple of 1/64 mm from 1/64 mm to 64 mm",
-            9 => "the changeover's columns are not i < u ≤ 511, or a value is above 2,000,000",
+            9 => "the changeover's columns are not i < u ≤ 2,047, or a value is above 17,000,000",
             // The C functions never answer the next two; the bench file's program does.
             10 => "the file's length is not a multiple of 4, or is over 16,384 bytes",
             11 => "a coordinate in the file is above 63",

@@ -86,7 +86,7 @@ fn try_kind(kind: u32, lines: u64, seed: &mut u64) -> Tally
     Tally { places, wrong }
 }
 
-// "10000 lines, 300000 places, 0 wrong"
+// "10000 lines, 500000 places, 0 wrong"
 fn print_tally(lines: u64, tally: Tally) {
     io::print_decimal(STDOUT_FILENO, lines);
     io::write_all(STDOUT_FILENO, b" lines, ");

@@ -63,16 +63,16 @@ plain-lane w h n scratch = lane-rows w h (replicate n 1) 0 0 n n scratch n
 abbrev pub plain-slice : ℕ → ℕ → ℕ → ℕ → List Row
 plain-slice w h n scratch = slice-rows w h 0 0 n n n scratch
 
--- 1: sides 0, 1, 512 and 513
+-- 1: sides 0, 1, 2,048 and 2,049
 abbrev pub side-edges : (ℕ → ℕ → ℕ → ℕ → List Row) → List Edge
 side-edges plain =
     call (plain 0 1 0 2) 1
     ∷ call (plain 1 0 0 2) 1
     ∷ call (plain 1 1 1 5) 0
-    ∷ call (plain 512 1 512 1538) 0
-    ∷ call (plain 1 512 512 1538) 0
-    ∷ call (plain 513 1 513 1541) 1
-    ∷ call (plain 1 513 513 1541) 1
+    ∷ call (plain 2_048 1 2_048 6_146) 0
+    ∷ call (plain 1 2_048 2_048 6_146) 0
+    ∷ call (plain 2_049 1 2_049 6_149) 1
+    ∷ call (plain 1 2_049 2_049 6_149) 1
     ∷ []
 
 -- a map of one bored cell: kind and weights; costs and a slice of one cell: kind
@@ -142,7 +142,7 @@ lent-edges lent =
 abbrev pub path-edges : List Edge
 path-edges = call (lent-lane 5 6 6 6 16) 4 ∷ call (lent-lane 7 6 6 6 16) 0 ∷ []
 
--- 4: slices unequal, empty and over 262,144, with pitch and radius 64.0
+-- 4: slices unequal, empty and over 4,194,304, with pitch and radius 64.0
 abbrev pub clear-of : ℕ → ℕ → List Row
 clear-of squares clear = clear-rows (setting (fin false 1 (pos 6)) (fin false 1 (pos 6))) squares clear
 
@@ -152,8 +152,8 @@ clear-edges =
     ∷ call (clear-of 1 1) 0
     ∷ call (clear-of 1 2) 4
     ∷ call (clear-of 2 1) 4
-    ∷ call (clear-of 262_144 262_144) 0
-    ∷ call (clear-of 262_145 262_145) 4
+    ∷ call (clear-of 4_194_304 4_194_304) 0
+    ∷ call (clear-of 4_194_305 4_194_305) 4
     ∷ []
 
 -- a map, a lane and costs of 2 by 1
@@ -208,17 +208,17 @@ knob-edges =
     ∷ no-opening (fin false 1 (pos 0)) nan
     ∷ []
 
--- 9: i beside u, u of 511 and 512, values of 2,000,000 and 2,000,001
+-- 9: i beside u, u of 2,047 and 2,048, values of 17,000,000 and 17,000,001
 abbrev pub changeover-edges : List Edge
 changeover-edges =
     call (changeover-rows 0 1 0 0) 0
     ∷ call (changeover-rows 1 1 0 0) 9
     ∷ call (changeover-rows 2 1 0 0) 9
-    ∷ call (changeover-rows 0 511 0 0) 0
-    ∷ call (changeover-rows 0 512 0 0) 9
-    ∷ call (changeover-rows 0 1 2_000_000 2_000_000) 0
-    ∷ call (changeover-rows 0 1 2_000_001 0) 9
-    ∷ call (changeover-rows 0 1 0 2_000_001) 9
+    ∷ call (changeover-rows 0 2_047 0 0) 0
+    ∷ call (changeover-rows 0 2_048 0 0) 9
+    ∷ call (changeover-rows 0 1 17_000_000 17_000_000) 0
+    ∷ call (changeover-rows 0 1 17_000_001 0) 9
+    ∷ call (changeover-rows 0 1 0 17_000_001) 9
     ∷ []
 
 -- 10: files of 3, 4, 16,384, 16,386 and 16,388 bytes, all 0. 6: an empty one.
@@ -242,9 +242,13 @@ record-edges =
     ∷ call (file-rows (0 ∷ 0 ∷ 0 ∷ 1 ∷ [])) 11
     ∷ []
 
--- 12: line numbers around W + H on a board of 3 by 2, and the greatest
+-- 12: line numbers around W + H on a board of 3 by 2, and the greatest; around W + H on the largest board, and there a
+-- scratch that is a word short
 abbrev pub at-line : ℕ → List Row
 at-line line = slice-rows 3 2 0 line 6 6 6 16
+
+abbrev pub on-largest : ℕ → ℕ → List Row
+on-largest line scratch = slice-rows 2_048 2_048 0 line 4_194_304 4_194_304 4_194_304 scratch
 
 abbrev pub start-edges : List Edge
 start-edges =
@@ -253,6 +257,10 @@ start-edges =
     ∷ call (at-line 5) 0
     ∷ call (at-line 6) 12
     ∷ call (at-line 4_294_967_295) 12
+    ∷ call (on-largest 0 4_202_496) 0
+    ∷ call (on-largest 4_096 4_202_496) 0
+    ∷ call (on-largest 4_097 4_202_496) 12
+    ∷ call (on-largest 0 4_202_495) 4
     ∷ []
 
 -- the left column of a board of 2 by 2, by the bytes in it and those beside it

@@ -129,6 +129,8 @@ accepted =
     ∷ clear-call good (16 ∷ 15 ∷ []) (8 ∷ 8 ∷ []) 0 (1 ∷ 0 ∷ [])
     -- changeover 0, 1, a = 2,000,000, b = 0: −1,000,000
     ∷ changeover-call 0 1 2_000_000 0 (At (negsuc 999_999))
+    -- changeover 0, 1, a = 17,000,000, b = 0: −8,500,000
+    ∷ changeover-call 0 1 17_000_000 0 (At (negsuc 8_499_999))
     -- the one record (0, 0): sites 1, farthest 7938, cell 4095 (`sample-text` has the bytes of the text)
     ∷ bench-call (0 ∷ 0 ∷ 0 ∷ 0 ∷ []) (Read 1 7938 4095) (text 0 1 7938 4095)
     ∷ []

@@ -5,9 +5,9 @@ use mathlib.Core.Path.{_≡_}
 use Prim.Native.Nat.{ℕ, _*_, _^_}
 use Rattle.rules.specs.declared.LimitTable.{LimitTable}
 
--- "Width W and height H are each 1 to 512."
+-- "Width W and height H are each 1 to" this. Document 02, E3: "Bass boards need sides to 2,048."
 abbrev pub side-limit : ℕ
-side-limit = 512
+side-limit = 2_048
 
 -- "or the mark 4,294,967,295, meaning no feature": the greatest u32 word
 abbrev pub mark : ℕ
@@ -32,21 +32,22 @@ slice-kind-limit = 2
 abbrev pub weight-limit : ℕ
 weight-limit = 255
 
--- "It is a public answer for columns 0 to 511 .."
+-- "It is a public answer for columns 0 to" this. Document 02, E3: "changeover columns end at 2,047 .."
 abbrev pub column-limit : ℕ
-column-limit = 511
+column-limit = 2_047
 
--- ".. and values a, b of 0 to 2,000,000."
+-- "and values a, b of 0 to" this. Document 02, E3: ".. and its values at 17,000,000"
 abbrev pub value-limit : ℕ
-value-limit = 2_000_000
+value-limit = 17_000_000
 
 -- "a whole number from 1 to 4,096"
 abbrev pub knob-limit : ℕ
 knob-limit = 4_096
 
--- "clear-map slices unequal, empty or over 262,144"
+-- "clear-map slices unequal, empty or over" this. Document 02, E3: refusal 4 starts with "the clear-map length at
+-- 4,194,305"
 abbrev pub clear-limit : ℕ
-clear-limit = 262_144
+clear-limit = 4_194_304
 
 -- "A small program for a 64 by 64 board"
 abbrev pub bench-side : ℕ

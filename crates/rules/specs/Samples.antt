@@ -1,7 +1,7 @@
--- "Sample boards": every starred line of document 01, as one list of values of one type, and what each says of the
--- rules. Where a line names no kind, kind 0 is meant. Beside it stands a second list of the same type, of boards that
--- are ours: 01 read aright and a likely misreading of it differ there. `proofs/Samples.antt` proves the claim `Shown` of
--- either list. Assumes nothing.
+-- "Sample boards": every starred line of document 01, and what document 02 adds to it, as one list of values of one type,
+-- and what each says of the rules. Where a line names no kind, kind 0 is meant. Beside it stands a second list of the same
+-- type, of boards that are ours: 01 read aright and a likely misreading of it differ there. `proofs/Samples.antt` proves
+-- the claim `Shown` of either list. Assumes nothing.
 use mathlib.Core.Path.{_≡_}
 use mathlib.Core.List.{List, [], _∷_}
 use Prim.Native.Nat.{ℕ, _<_}
@@ -42,7 +42,7 @@ SampleHolds (change i u a b p) = Changeover i u a b p
 SampleHolds (clear a b d byte) = clear-byte a b d ≡ byte
 SampleHolds (lane w h picture from to broad cells) = WidestLane w h picture from to broad cells
 
--- the starred lines, in 01's order
+-- the starred lines in 01's order, and what 02 adds to them
 abbrev pub starred : List Sample
 starred =
     -- 1×1 bored: distance 0, site 0
@@ -64,6 +64,8 @@ starred =
     -- changeover 0, 1, a = 2,000,000, b = 0: −1,000,000; 510, 511, a = 0, b = 2,000,000: 1,000,510
     ∷ change 0 1 2_000_000 0 (negsuc 999_999)
     ∷ change 510 511 0 2_000_000 (pos 1_000_510)
+    -- Document 02, E3: changeover 0, 1, a = 17,000,000, b = 0: −8,500,000
+    ∷ change 0 1 17_000_000 0 (negsuc 8_499_999)
     -- a = 32, b = 128: d = 16 clear, 15 not
     ∷ clear 32 128 16 1
     ∷ clear 32 128 15 0

@@ -3,8 +3,8 @@
 ghost use mathlib.Core.Path.{_≡_};
 ghost use Rattle.rules.specs.Limits.{Stated};
 
-// "Width W and height H are each 1 to 512."
-pub const SIDE_LIMIT: u32 = 512;
+// Document 02, E3: "sides to 2,048"
+pub const SIDE_LIMIT: u32 = 2_048;
 // "the mark 4,294,967,295, meaning no feature"
 pub const MARK: u32 = 4_294_967_295;
 // "a cost of 0 to 1,000,000"
@@ -17,14 +17,14 @@ pub const COST_KIND_LIMIT: u32 = 1;
 pub const SLICE_KIND_LIMIT: u32 = 2;
 // "d1 from 1 to 255"
 pub const WEIGHT_LIMIT: u32 = 255;
-// The changeover's "columns 0 to 511".
-pub const COLUMN_LIMIT: u32 = 511;
-// The changeover's "values a, b of 0 to 2,000,000".
-pub const VALUE_LIMIT: u32 = 2_000_000;
+// Document 02, E3: "changeover columns end at 2,047"
+pub const COLUMN_LIMIT: u32 = 2_047;
+// Document 02, E3: ".. and its values at 17,000,000"
+pub const VALUE_LIMIT: u32 = 17_000_000;
 // "a whole number from 1 to 4,096"
 pub const KNOB_LIMIT: u32 = 4_096;
-// "clear-map slices .. over 262,144"
-pub const CLEAR_LIMIT: usize = 262_144;
+// Document 02, E3: "the clear-map length at 4,194,305" is the first refused
+pub const CLEAR_LIMIT: usize = 4_194_304;
 // "a 64 by 64 board"
 pub const BENCH_SIDE: u32 = 64;
 // "over 16,384 bytes"

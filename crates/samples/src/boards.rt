@@ -8,14 +8,15 @@ use maps::picture_map;
 use rules::MARK;
 ghost use Prim.Native.Nat.{_<_};
 
-// The cells of the largest board, 512 by 512.
+// The cells of the largest board here, 512 by 512. A board of 2,048 by 2,048 has no room on a stack; `examples/board.c` and
+// the second program run that.
 const CELLS: usize = 262_144;
 // Its scratch words: 512·512 + 2·512 + 2·512.
 const SCRATCH: usize = 264_192;
 // The cells of the longest of the other boards, a line with one cell too many: enough for every other.
-const LINE: usize = 513;
-// Its scratch words: 513 + 2·513 + 2.
-const LINE_SCRATCH: usize = 1_541;
+const LINE: usize = 2_049;
+// Its scratch words: 2,049 + 2·2,049 + 2.
+const LINE_SCRATCH: usize = 6_149;
 
 // What is asked of a picture.
 pub struct Question {
@@ -69,7 +70,7 @@ fn map_of(
 
 // One cell of a picture's map, in words of its own.
 fn look(question: Question, picture: &[u8], cell: usize) -> Found
-    requires { ⌜ cell < 513 ⌝ }
+    requires { ⌜ cell < 2_049 ⌝ }
 {
     let mut distances = [MARK; LINE];
     let mut sites = [MARK; LINE];
@@ -104,7 +105,7 @@ fn print_answer(refusal: u32) {
 
 // A board, and one cell of its map.
 pub fn show_cell(name: &[u8], question: Question, picture: &[u8], cell: usize)
-    requires { ⌜ cell < 513 ⌝ }
+    requires { ⌜ cell < 2_049 ⌝ }
 {
     print(name);
     let found = look(question, picture, cell);
@@ -119,7 +120,7 @@ pub fn show_answer(name: &[u8], question: Question, picture: &[u8]) {
     print(b"\n");
 }
 
-// The last cell of the largest board.
+// The last cell of the largest board here.
 pub fn show_largest() {
     let mut picture = [0; CELLS];
     picture[0] = 1;

@@ -87,11 +87,12 @@ fn print_length(name: &[u8], squares: &[u32], clear: &mut [u8]) {
     print(b"\n");
 }
 
-// The longest clear map, and one word more.
+// A clear map of a board of 512 by 512, which was the longest once, and one word more. The longest, of 4,194,304 words, has
+// no room on a stack; `examples/header.c` and the second program run it.
 pub fn show_lengths() {
     let squares = [0; 262_145];
-    let mut most = [2; 262_144];
-    print_length(b"262144", &squares[..262_144], &mut most);
-    let mut too_many = [2; 262_145];
-    print_length(b"262145", &squares, &mut too_many);
+    let mut board = [2; 262_144];
+    print_length(b"262144", &squares[..262_144], &mut board);
+    let mut one_more = [2; 262_145];
+    print_length(b"262145", &squares, &mut one_more);
 }

@@ -1,5 +1,6 @@
-// The samples of document 01 through the public entries, a line for each, and its limits from both sides. Every figure
-// that is asked is the paper's own, in digits: a limit that is wrong in the rules shows.
+// The samples of document 01, and of 02 as far as it is done, through the public entries, a line for each, and the limits
+// from both sides, but for the longest clear map, which has no room here. Every figure that is asked is the paper's own, in
+// digits: a limit that is wrong in the rules shows.
 use boards::board;
 use boards::chamfer_board;
 use boards::show_003;
@@ -38,11 +39,15 @@ fn cells() {
     show_cell(b"14 by 8, bores 27, 82 and 109", board(14, 8, 0), &wide, 0);
 }
 
-// Boards that have nothing wrong with them but a side.
+// The longest lines, and boards that have nothing wrong with them but a side.
 fn sides() {
-    let bored = [1; 513];
-    show_answer(b"513 by 1", board(513, 1, 0), &bored);
-    show_answer(b"1 by 513", board(1, 513, 0), &bored);
+    let mut line = [0; 2_048];
+    line[0] = 1;
+    show_cell(b"2048 by 1, bore 0", board(2_048, 1, 0), &line, 2_047);
+    show_cell(b"1 by 2048, bore 0", board(1, 2_048, 0), &line, 2_047);
+    let bored = [1; 2_049];
+    show_answer(b"2049 by 1", board(2_049, 1, 0), &bored);
+    show_answer(b"1 by 2049", board(1, 2_049, 0), &bored);
 }
 
 // Weights, on a board of one bored cell. Kind 0 reads none.
@@ -69,9 +74,11 @@ fn values() {
 fn columns() {
     show_changeover(0, 1, 2_000_000, 0);
     show_changeover(510, 511, 0, 2_000_000);
-    show_changeover(511, 512, 0, 0);
-    show_changeover(0, 1, 2_000_001, 0);
-    show_changeover(0, 1, 0, 2_000_001);
+    show_changeover(0, 1, 17_000_000, 0);
+    show_changeover(2_046, 2_047, 0, 17_000_000);
+    show_changeover(2_047, 2_048, 0, 0);
+    show_changeover(0, 1, 17_000_001, 0);
+    show_changeover(0, 1, 0, 17_000_001);
 }
 
 // Costs of five cells in a row, the dearest that is taken, and one that is too dear.

@@ -46,6 +46,7 @@ mod tests {
     fn the_samples() {
         assert_eq!(asked(0, 1, 2_000_000, 0), Ok(-1_000_000));
         assert_eq!(asked(510, 511, 0, 2_000_000), Ok(1_000_510));
+        assert_eq!(asked(0, 1, 17_000_000, 0), Ok(-8_500_000));
     }
 
     #[test]
@@ -58,9 +59,11 @@ mod tests {
     fn what_is_refused() {
         assert_eq!(asked(5, 5, 0, 0), Err(9));
         assert_eq!(asked(6, 5, 0, 0), Err(9));
-        assert_eq!(asked(0, 512, 0, 0), Err(9));
-        assert_eq!(asked(0, 1, 2_000_001, 0), Err(9));
-        assert_eq!(asked(0, 1, 0, 2_000_001), Err(9));
+        assert_eq!(asked(2_046, 2_047, 0, 0), Ok(2_046));
+        assert_eq!(asked(2_046, 2_048, 0, 0), Err(9));
+        assert_eq!(asked(0, 1, 0, 17_000_000), Ok(8_500_000));
+        assert_eq!(asked(0, 1, 0, 17_000_001), Err(9));
+        assert_eq!(asked(0, 1, 17_000_001, 0), Err(9));
     }
 
     /// "The greatest whole p with (p − i)² + a ≤ (p − u)² + b."

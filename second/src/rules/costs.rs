@@ -102,7 +102,7 @@ mod tests {
         assert_eq!(call.refusal(), Err(4));
         call.asked.0 = 2;
         assert_eq!(call.refusal(), Err(2));
-        call.board.height = 513;
+        call.board.height = 2_049;
         assert_eq!(call.refusal(), Err(1));
     }
 }

@@ -36,7 +36,7 @@ pub struct ClearCall {
 }
 
 impl ClearCall {
-    /// Row 4: "clear-map slices unequal, empty or over 262,144".
+    /// Row 4: "clear-map slices unequal, empty or over 4,194,304".
     fn bad_slices(&self) -> bool {
         let length = self.squares.len();
         length != self.clear || length == 0 || length > CLEAR
@@ -105,5 +105,15 @@ mod tests {
         assert_eq!(call.answer(), Err(8));
         (call.squares, call.clear) = (vec![], 0);
         assert_eq!(call.answer(), Err(4));
+    }
+
+    #[test]
+    fn the_longest_clear_map() {
+        let refusal = |length| {
+            let squares = vec![0; length];
+            ClearCall { setting: setting(0.5, 2.0), squares, clear: length }.refusal()
+        };
+        assert_eq!(refusal(4_194_304), Ok(()));
+        assert_eq!(refusal(4_194_305), Err(4));
     }
 }

@@ -1,7 +1,7 @@
 //! The limits of documents 01 and 02, each in one place.
 
 /// The longest side of a board.
-pub const SIDE: u32 = 512;
+pub const SIDE: u32 = 2_048;
 /// The greatest kind of a picture map.
 pub const KIND: u32 = 3;
 /// The greatest kind of a map in slices, in later editions too.
@@ -15,11 +15,11 @@ pub const COST: u32 = 1_000_000;
 /// The greatest whole number that a setting's value opens to.
 pub const KNOB: u32 = 4_096;
 /// The longest clear map.
-pub const CLEAR: usize = 262_144;
+pub const CLEAR: usize = 4_194_304;
 /// The last column that a changeover may be asked of.
-pub const COLUMN: u32 = 511;
+pub const COLUMN: u32 = 2_047;
 /// The greatest value that a changeover may be asked with.
-pub const VALUE: u32 = 2_000_000;
+pub const VALUE: u32 = 17_000_000;
 /// The side of the bench file's board.
 pub const BENCH_SIDE: u32 = 64;
 /// The longest bench file.

@@ -31,7 +31,8 @@ pub trait MapRule {
     }
 }
 
-/// The table of measures.
+/// The table of measures. It is asked for each cell and each bore, and not called from afar.
+#[inline]
 pub fn distance(measure: Measure, dx: u32, dy: u32) -> u32 {
     let (less, more) = (dx.min(dy), dx.max(dy));
     match measure.kind {
@@ -147,15 +148,22 @@ mod tests {
 
     #[test]
     fn the_farthest_cell() {
-        let large = map(board(512, 512), Measure::EUCLID, &[(0, 0)]);
-        assert_eq!(large.distances[262_143], 522_242);
+        let middle = map(board(512, 512), Measure::EUCLID, &[(0, 0)]);
+        assert_eq!(middle.distances[262_143], 522_242);
+        let largest = map(board(2_048, 2_048), Measure::EUCLID, &[(0, 0)]);
+        assert_eq!(largest.distances[4_194_303], 8_380_418);
     }
 
     #[test]
     fn sides() {
-        for wrong in [board(513, 1), board(1, 513), board(0, 1), board(1, 0)] {
-            let call = PictureCall::new(wrong, vec![1; wrong.cells()], Measure::EUCLID);
-            assert_eq!(call.refusal(), Err(1));
+        let refusal = |board: Board| {
+            PictureCall::new(board, vec![1; board.cells()], Measure::EUCLID).refusal()
+        };
+        for right in [board(2_048, 1), board(1, 2_048)] {
+            assert_eq!(refusal(right), Ok(()));
+        }
+        for wrong in [board(2_049, 1), board(1, 2_049), board(0, 1), board(1, 0)] {
+            assert_eq!(refusal(wrong), Err(1));
         }
     }
 

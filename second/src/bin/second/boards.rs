@@ -11,6 +11,9 @@ use std::fmt::Debug;
 /// The largest board.
 pub const LARGEST: Board = Board { width: SIDE, height: SIDE };
 
+/// The largest board before document 02 let in longer ones. There is time for more cases on it.
+pub const MIDDLE: Board = Board { width: 512, height: 512 };
+
 /// Every board with sides of at most `side`.
 pub fn up_to(side: u32) -> impl Iterator<Item = Board> {
     (1..=side).flat_map(move |height| (1..=side).map(move |width| Board { width, height }))
@@ -24,11 +27,13 @@ pub fn thin() -> impl Iterator<Item = Board> {
     both.map(|(width, height)| Board { width, height })
 }
 
-/// Boards with sides at the limits, and just outside them.
+/// Boards with sides at the limits, and just outside them; but not with both sides too long, which
+/// damaged calls have on smaller lists.
 pub fn around_the_limits() -> impl Iterator<Item = Board> {
     let sides = [0, 1, SIDE, SIDE + 1];
     let pairs = sides.into_iter().flat_map(move |width| sides.map(|height| (width, height)));
-    pairs.map(|(width, height)| Board { width, height })
+    let boards = pairs.map(|(width, height)| Board { width, height });
+    boards.filter(|board| board.width.min(board.height) <= SIDE)
 }
 
 /// Boards for calls that are damaged.

@@ -1,7 +1,7 @@
 //! Cost maps.
 
 use crate::bare;
-use crate::boards::{self, LARGEST};
+use crate::boards::{self, LARGEST, MIDDLE};
 use crate::damage::{self, put, Damage};
 use crate::map_case::{hold_each, Asked, Look, MapCase};
 use crate::run::Run;
@@ -83,7 +83,7 @@ const KINDS: [CostKind; 2] = [CostKind(0), CostKind(1)];
 
 /// Holds the maps of both kinds of one cost picture.
 fn both_kinds(run: &mut Run, group: &'static str, board: Board, costs: &[u32]) {
-    hold_each(run, group, (board, costs), KINDS, Look::AT_ALL);
+    hold_each(run, group, (board, costs), KINDS, Look::AtAll);
 }
 
 /// Holds cost pictures of every style on one board.
@@ -119,14 +119,26 @@ fn thin_boards(run: &mut Run) {
 }
 
 fn large_boards(run: &mut Run) {
-    for (style, marked) in [(5, u32::MAX), (6, 60_000), (8, 20_000)] {
-        let costs = styled(LARGEST, style, marked, &mut run.generator);
-        both_kinds(run, "512 by 512, few costs", LARGEST, &costs);
+    few_costs(run, "512 by 512, few costs", MIDDLE, &[(5, 0), (6, 4), (8, 13)]);
+    many_costs(run, "512 by 512, many costs, some cells", MIDDLE, &[3, 6, 8], 130);
+    few_costs(run, "2,048 by 2,048, few costs", LARGEST, &[(8, 13)]);
+    many_costs(run, "2,048 by 2,048, many costs, some cells", LARGEST, &[3, 6], 20);
+}
+
+/// Pictures of a style, each with one cost and about so many more.
+fn few_costs(run: &mut Run, group: &'static str, board: Board, pictures: &[(u32, u32)]) {
+    for &(style, more) in pictures {
+        let marked = (board.cells() as u32).checked_div(more).unwrap_or(u32::MAX);
+        let costs = styled(board, style, marked, &mut run.generator);
+        both_kinds(run, group, board, &costs);
     }
-    for style in [3, 6, 8] {
-        let costs = styled(LARGEST, style, 1, &mut run.generator);
-        let board = (LARGEST, &costs[..]);
-        hold_each(run, "512 by 512, many costs, some cells", board, KINDS, Look::AT_SOME);
+}
+
+/// Pictures of some styles without a mark. About so many cells of each are looked at.
+fn many_costs(run: &mut Run, group: &'static str, board: Board, styles: &[u32], cells: usize) {
+    for &style in styles {
+        let costs = styled(board, style, 1, &mut run.generator);
+        hold_each(run, group, (board, &costs), KINDS, Look::AtAbout(cells));
     }
 }
 
@@ -155,4 +167,7 @@ fn damaged(run: &mut Run) {
             damage::hold(run, &sound, &damages, MapCase::exact);
         }
     }
+    let costs = styled(LARGEST, 5, u32::MAX, &mut run.generator);
+    let largest = CostCall::new(LARGEST, costs, CostKind(0));
+    damage::hold_short(run, &largest, &[], MapCase::exact);
 }

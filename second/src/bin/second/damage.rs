@@ -21,6 +21,23 @@ pub fn hold<P: Clone, A: Clone, C: Call>(
     }
 }
 
+/// Holds a sound call on the largest board as it is, its lists just long enough, and then with each
+/// list by itself one element too short.
+pub fn hold_short<P: Clone, A: Clone, C: Call>(
+    run: &mut Run,
+    sound: &BoardCall<P, A>,
+    own: &[Damage<P, A>],
+    case: fn(BoardCall<P, A>) -> C,
+) {
+    let group = "2,048 by 2,048, least and short lists";
+    run.hold(group, &case(sound.clone()));
+    for damage in short().iter().chain(own) {
+        let mut call = sound.clone();
+        damage(Lengths::least(sound.board), &mut call);
+        run.hold(group, &case(call));
+    }
+}
+
 fn spoiled<P: Clone, A: Clone>(
     sound: &BoardCall<P, A>,
     damages: &[Damage<P, A>],
@@ -42,7 +59,7 @@ fn spoiled<P: Clone, A: Clone>(
 
 /// The damages that every call on a board can have.
 pub fn on_board<P: Clone, A>() -> Vec<Damage<P, A>> {
-    [sides(), lengths()].concat()
+    [sides(), short(), lengths()].concat()
 }
 
 fn sides<P, A>() -> Vec<Damage<P, A>> {
@@ -58,15 +75,23 @@ fn sides<P, A>() -> Vec<Damage<P, A>> {
     damages.to_vec()
 }
 
-fn lengths<P: Clone, A>() -> Vec<Damage<P, A>> {
+/// A list that is one element too short.
+fn short<P, A>() -> Vec<Damage<P, A>> {
     let damages: &[Damage<P, A>] = &[
         |least, call| call.lent.distances = least.distances - 1,
         |least, call| call.lent.sites = least.sites - 1,
         |least, call| call.lent.scratch = least.scratch - 1,
+        |_, call| drop(call.picture.pop()),
+    ];
+    damages.to_vec()
+}
+
+/// A list of another wrong length.
+fn lengths<P: Clone, A>() -> Vec<Damage<P, A>> {
+    let damages: &[Damage<P, A>] = &[
         |_, call| call.lent.distances = 0,
         |_, call| call.lent.sites = 0,
         |_, call| call.lent.scratch = 0,
-        |_, call| drop(call.picture.pop()),
         |_, call| call.picture.clear(),
         |_, call| call.picture.extend(call.picture.first().cloned()),
     ];

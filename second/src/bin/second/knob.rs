@@ -5,7 +5,7 @@ use crate::lent::{rubbish, unchanged, Lent};
 use crate::run::{agreed, Call, Run};
 use olavinthu::Setting;
 use second::generator::Generator;
-use second::rules::limits::{CLEAR, KNOB};
+use second::rules::limits::{CLEAR, KNOB, SIDE};
 use second::rules::{good_word, opened, ClearCall};
 
 /// The opening of a setting.
@@ -120,12 +120,15 @@ fn random_values(run: &mut Run) {
     }
 }
 
+/// The greatest squared distance on a board.
+const FARTHEST: u32 = 2 * (SIDE - 1).pow(2);
+
 /// Squared distances of every size, and those next to b² / a², from where on a cell is clear.
 fn squares(setting: Setting, count: usize, generator: &mut Generator) -> Vec<u32> {
     let bound = (f64::from(setting.radius) / f64::from(setting.pitch)).powi(2) as u32;
     let mut square = |_| match generator.below(4) {
         0 => rubbish(generator),
-        1 => generator.below(522_243),
+        1 => generator.below(FARTHEST + 1),
         _ => (bound + generator.below(5)).saturating_sub(2),
     };
     (0..count).map(&mut square).collect()
@@ -146,11 +149,13 @@ fn clear_lengths(run: &mut Run) {
     let lengths = [0, 1, 2, CLEAR - 1, CLEAR, CLEAR + 1];
     let pitches = [1.0, 0.01];
     for count in lengths {
+        let setting = Setting { pitch: 1.0, radius: 2.0 };
+        let squares = squares(setting, count, &mut run.generator);
+        let mut call = ClearCall { setting, squares, clear: 0 };
         for clear in lengths {
             for pitch in pitches {
-                let setting = Setting { pitch, radius: 2.0 };
-                let squares = squares(setting, count, &mut run.generator);
-                run.hold("lengths", &ClearCall { setting, squares, clear });
+                (call.setting.pitch, call.clear) = (pitch, clear);
+                run.hold("lengths", &call);
             }
         }
     }

@@ -1,7 +1,7 @@
 //! Lanes.
 
 use crate::bare;
-use crate::boards::{self, LARGEST};
+use crate::boards::{self, LARGEST, MIDDLE};
 use crate::damage::{self, Damage};
 use crate::lent::{roomy, rubbish, unchanged, Lent, Lists};
 use crate::run::{agreed, Call, Run};
@@ -85,9 +85,10 @@ fn random_ends(board: Board, generator: &mut Generator) -> [u32; 2] {
     }
 }
 
-/// Holds a few lanes on one picture.
+/// Holds a few lanes on one picture; on a board of millions of cells only one, which takes seconds.
 fn between_random_cells(run: &mut Run, group: &'static str, board: Board, picture: &[u8]) {
-    for _ in 0..3 {
+    let lanes = if board.cells() < 1_000_000 { 3 } else { 1 };
+    for _ in 0..lanes {
         let ends = random_ends(board, &mut run.generator);
         hold(run, group, board, picture, ends);
     }
@@ -115,15 +116,29 @@ fn mazes(run: &mut Run) {
 }
 
 fn large_boards(run: &mut Run) {
-    for count in [1, 3, 12, 25] {
-        let picture = pictures::few(LARGEST, count, &mut run.generator);
-        between_random_cells(run, "512 by 512", LARGEST, &picture);
+    few_bores(run, "512 by 512", MIDDLE, &[1, 3, 12, 25]);
+    few_bores(run, "2,048 by 2,048", LARGEST, &[12]);
+}
+
+/// Pictures of so many bores.
+fn few_bores(run: &mut Run, group: &'static str, board: Board, counts: &[u32]) {
+    for &count in counts {
+        let picture = pictures::few(board, count, &mut run.generator);
+        between_random_cells(run, group, board, &picture);
     }
 }
 
+/// A call on a picture with a bore or two, with lists of the least lengths.
+fn sound(board: Board, generator: &mut Generator) -> LaneCall {
+    let picture = pictures::few(board, 2, generator);
+    let [from, to] = random_ends(board, generator);
+    LaneCall::between(board, picture, from, to)
+}
+
 fn damaged(run: &mut Run) {
+    let short: Damage<u8, LaneAsked> = |least, call| call.asked.path = least.distances - 1;
     let own: &[Damage<u8, LaneAsked>] = &[
-        |least, call| call.asked.path = least.distances - 1,
+        short,
         |_, call| call.asked.path = 0,
         |least, call| call.asked.from = least.distances as u32,
         |least, call| call.asked.to = least.distances as u32,
@@ -132,9 +147,9 @@ fn damaged(run: &mut Run) {
     ];
     let damages = [damage::on_board(), damage::of_bytes(), own.to_vec()].concat();
     for board in boards::to_damage() {
-        let picture = pictures::few(board, 2, &mut run.generator);
-        let [from, to] = random_ends(board, &mut run.generator);
-        let sound = LaneCall::between(board, picture, from, to);
+        let sound = sound(board, &mut run.generator);
         damage::hold(run, &sound, &damages, |call| call);
     }
+    let largest = sound(LARGEST, &mut run.generator);
+    damage::hold_short(run, &largest, &[short], |call| call);
 }

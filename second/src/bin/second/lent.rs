@@ -40,18 +40,16 @@ impl<T: Copy + PartialEq + Display> Lent<T> {
 
     /// The list must begin with these elements, and all others must be as they were.
     pub fn holds(&self, name: &str, first: &[T]) -> Result<(), String> {
-        let written = MARGIN..MARGIN + first.len();
-        let mut expected = self.before.clone();
-        expected[written].copy_from_slice(first);
-        match (0..expected.len()).find(|&at| self.now[at] != expected[at]) {
-            None => Ok(()),
-            Some(at) => Err(format!(
-                "{name}[{}] is {}, not {}",
-                at as isize - MARGIN as isize,
-                self.now[at],
-                expected[at]
-            )),
+        let end = MARGIN + first.len();
+        let (left, rest) = (&self.before[..MARGIN], &self.before[end..]);
+        for (from, expected) in [(0, left), (MARGIN, first), (end, rest)] {
+            let now = &self.now[from..][..expected.len()];
+            if let Some(at) = (0..now.len()).find(|&at| now[at] != expected[at]) {
+                let place = (from + at) as isize - MARGIN as isize;
+                return Err(format!("{name}[{place}] is {}, not {}", now[at], expected[at]));
+            }
         }
+        Ok(())
     }
 
     /// Every element must be as it was.
@@ -69,11 +67,12 @@ pub fn unchanged<T: PartialEq>(name: &str, before: &[T], now: &[T]) -> Result<()
 }
 
 /// A word of rubbish. Half of them are small: a program that trusts what it finds in a buffer is
-/// rather caught by a number that could be a column, a row or a distance.
+/// rather caught by a number that could be a column, a row or a distance. The others are odd.
 pub fn rubbish(generator: &mut Generator) -> u32 {
-    match generator.once_in(2) {
-        true => generator.below(16),
-        false => generator.word(),
+    let word = generator.word();
+    match word % 2 {
+        0 => word >> 28,
+        _ => word,
     }
 }
 

@@ -14,15 +14,23 @@ pub trait Asked: MapRule {
     fn drawn(&self) -> String;
 }
 
-/// Which cells of a map are looked at: every so manieth.
+/// Which cells of a map are looked at: all, or about so many. On a large board that is full of
+/// features all cells would take hours.
 #[derive(Clone, Copy)]
-pub struct Look(usize);
+pub enum Look {
+    AtAll,
+    AtAbout(usize),
+}
 
 impl Look {
-    pub const AT_ALL: Look = Look(1);
-
-    /// On a large board that is full of features all cells would take hours.
-    pub const AT_SOME: Look = Look(2_003);
+    /// How far it is from one cell that is looked at to the next.
+    fn step(self, board: Board) -> usize {
+        match self {
+            Look::AtAll => 1,
+            // Odd, so that on a board whose width is even they are not all in one column.
+            Look::AtAbout(count) => (board.cells() / count) | 1,
+        }
+    }
 }
 
 /// A call for a map, and which of its cells are looked at.
@@ -34,7 +42,7 @@ pub struct MapCase<P, A> {
 impl<P, A> MapCase<P, A> {
     /// The call as it stands, every cell looked at.
     pub fn exact(call: BoardCall<P, A>) -> MapCase<P, A> {
-        MapCase { call, look: Look::AT_ALL }
+        MapCase { call, look: Look::AtAll }
     }
 }
 
@@ -64,7 +72,8 @@ where
     fn accepted(&self, lists: &Lists) -> Result<(), String> {
         let nearest = self.call.nearest();
         let mut map = lists.map(self.call.board);
-        for (cell, (x, y)) in cells(self.call.board).enumerate().step_by(self.look.0) {
+        let step = self.look.step(self.call.board);
+        for (cell, (x, y)) in cells(self.call.board).enumerate().step_by(step) {
             (map.distances[cell], map.sites[cell]) = nearest(x, y);
         }
         lists.hold(self.call.board, &map)

@@ -1,6 +1,6 @@
 //! Picture maps.
 
-use crate::boards::{self, LARGEST};
+use crate::boards::{self, LARGEST, MIDDLE};
 use crate::damage::{self, Damage};
 use crate::map_case::{hold_each, Asked, Look, MapCase};
 use crate::run::Run;
@@ -50,7 +50,7 @@ fn measures(generator: &mut Generator) -> [Measure; 4] {
 /// Holds the maps of all four kinds of one picture.
 fn every_kind(run: &mut Run, group: &'static str, board: Board, picture: &[u8]) {
     let measures = measures(&mut run.generator);
-    hold_each(run, group, (board, picture), measures, Look::AT_ALL);
+    hold_each(run, group, (board, picture), measures, Look::AtAll);
 }
 
 fn small_pictures(run: &mut Run) {
@@ -70,20 +70,29 @@ fn random_boards(run: &mut Run) {
 }
 
 fn large_boards(run: &mut Run) {
-    for count in [1, 1, 2, 5, 20] {
-        let picture = pictures::few(LARGEST, count, &mut run.generator);
-        every_kind(run, "512 by 512, few bores", LARGEST, &picture);
+    few_bores(run, "512 by 512, few bores", MIDDLE, &[1, 1, 2, 5, 20]);
+    many_bores(run, "512 by 512, many bores, some cells", MIDDLE, &[2, 50], 130);
+    few_bores(run, "2,048 by 2,048, few bores", LARGEST, &[9]);
+    many_bores(run, "2,048 by 2,048, many bores, some cells", LARGEST, &[50], 30);
+}
+
+/// Pictures of so many bores.
+fn few_bores(run: &mut Run, group: &'static str, board: Board, counts: &[u32]) {
+    for &count in counts {
+        let picture = pictures::few(board, count, &mut run.generator);
+        every_kind(run, group, board, &picture);
     }
-    let dense = [
-        pictures::chequerboard(LARGEST),
-        pictures::diagonal(LARGEST),
-        pictures::random(LARGEST, 2, &mut run.generator),
-        pictures::random(LARGEST, 50, &mut run.generator),
-    ];
+}
+
+/// Drawn pictures, and random ones in which one cell in so many is bored. About so many cells of each
+/// are looked at.
+fn many_bores(run: &mut Run, group: &'static str, board: Board, one_in: &[u32], cells: usize) {
+    let drawn = [pictures::chequerboard(board), pictures::diagonal(board)];
+    let random = one_in.iter().map(|&many| pictures::random(board, many, &mut run.generator));
+    let dense: Vec<Vec<u8>> = drawn.into_iter().chain(random).collect();
     for picture in dense {
         let measures = measures(&mut run.generator);
-        let board = (LARGEST, &picture[..]);
-        hold_each(run, "512 by 512, many bores, some cells", board, measures, Look::AT_SOME);
+        hold_each(run, group, (board, &picture), measures, Look::AtAbout(cells));
     }
 }
 
@@ -116,4 +125,7 @@ fn damaged(run: &mut Run) {
             damage::hold(run, &sound, &damages, MapCase::exact);
         }
     }
+    let picture = pictures::few(LARGEST, 2, &mut run.generator);
+    let largest = PictureCall::new(LARGEST, picture, Measure::EUCLID);
+    damage::hold_short(run, &largest, &[], MapCase::exact);
 }

@@ -1,6 +1,6 @@
 //! Maps in slices.
 
-use crate::boards::{self, LARGEST};
+use crate::boards::{self, LARGEST, MIDDLE};
 use crate::damage::{self, put, Damage};
 use crate::lent::{roomy, rubbish};
 use crate::run::Run;
@@ -9,7 +9,7 @@ use olavinthu::{Board, MARK};
 use second::generator::Generator;
 use second::pictures;
 use second::rules::limits::SLICE_KIND;
-use second::rules::{BoardCall, Lengths, Map, SliceAsked, SliceCall, Words};
+use second::rules::{cells, BoardCall, Lengths, Map, SliceAsked, SliceCall, Words};
 
 pub fn compare(run: &mut Run) {
     small_pictures(run);
@@ -86,13 +86,13 @@ fn every_way(run: &mut Run, group: &'static str, board: Board, picture: &[u8]) {
     }
 }
 
-/// Makes the map of one kind of one picture with one list of budgets; on a large board not with the
-/// small ones, which would take seconds.
+/// Makes the map of one kind of one picture with one list of budgets; on a large board in one call,
+/// as many would take minutes.
 fn one_way(run: &mut Run, group: &'static str, board: Board, picture: &[u8]) {
     let kind = run.generator.below(SLICE_KIND + 1);
     let budgets = match board.cells() {
         0..=5_000 => run.generator.pick(&BUDGETS),
-        _ => run.generator.pick(&[SIXTY_FOUR, ALL, MORE, ANY]),
+        _ => run.generator.pick(&[ALL, MORE]),
     };
     chain(run, group, (board, picture), kind, budgets);
 }
@@ -131,15 +131,34 @@ fn thin_boards(run: &mut Run) {
 }
 
 fn large_boards(run: &mut Run) {
+    few_bores(run, "512 by 512, few bores", MIDDLE, &[SIXTY_FOUR, ALL, ANY]);
+    few_bores(run, "2,048 by 2,048, few bores", LARGEST, &[ANY]);
+    let many = pictures::random(MIDDLE, 50, &mut run.generator);
+    let kind = run.generator.below(SLICE_KIND + 1);
+    chain(run, "512 by 512, many bores", (MIDDLE, &many), kind, ANY);
+    some_lines(run);
+}
+
+/// Makes a map of each kind with some lists of budgets.
+fn few_bores(run: &mut Run, group: &'static str, board: Board, some: &[Budgets]) {
     for kind in 0..=SLICE_KIND {
-        let few = pictures::few(LARGEST, 9, &mut run.generator);
-        for budgets in [SIXTY_FOUR, ALL, ANY] {
-            chain(run, "512 by 512, few bores", (LARGEST, &few), kind, budgets);
+        let few = pictures::few(board, 9, &mut run.generator);
+        for &budgets in some {
+            chain(run, group, (board, &few), kind, budgets);
         }
     }
-    let many = pictures::random(LARGEST, 50, &mut run.generator);
-    let kind = run.generator.below(SLICE_KIND + 1);
-    chain(run, "512 by 512, many bores", (LARGEST, &many), kind, ANY);
+}
+
+/// Two lines at a time of the largest board, where half the cells are bored and every word of a row
+/// names a cell. All lines would take minutes.
+fn some_lines(run: &mut Run) {
+    for line in turns(LARGEST) {
+        let generator = &mut run.generator;
+        let mut call = sound(LARGEST, line, 2, generator);
+        call.picture = pictures::random(LARGEST, 2, generator);
+        call.asked.before.scratch[..LARGEST.cells()].fill_with(|| generator.below(LARGEST.height));
+        run.hold("2,048 by 2,048, many bores, some lines", &SliceCase::new(call));
+    }
 }
 
 /// How many bytes or words there are to one that is bad: none is, a few are, many are.
@@ -243,26 +262,37 @@ fn damages() -> Vec<Damage<u8, SliceAsked>> {
     [damage::on_board(), damage::of_bytes(), own.to_vec()].concat()
 }
 
-/// A call on a picture with a bore or two, and on words that every row can believe.
+/// A call on a picture with a bore or two, and on words that every row can believe. In a wide row
+/// most words are marks: the rules hold each cell against every cell that is named.
 fn sound(board: Board, line: u32, budget: u32, generator: &mut Generator) -> SliceCall {
     let mut before = Words::filled(Lengths::least(board), || rubbish(generator));
-    before.scratch[..board.cells()].fill_with(|| generator.below(board.height));
+    for (word, (x, _)) in before.scratch.iter_mut().zip(cells(board)) {
+        *word = match x == 0 || generator.once_in(1 + board.width / 64) {
+            true => generator.below(board.height),
+            false => MARK,
+        };
+    }
     let kind = generator.below(SLICE_KIND + 1);
     let picture = pictures::few(board, 2, generator);
     BoardCall::new(board, picture, SliceAsked { kind, line, budget, before })
 }
 
+/// Lines to begin at: the first column, the last column, from which it goes into the rows, the
+/// first row, and the last row but one, which on a small board may be a column.
+fn turns(Board { width, height }: Board) -> [u32; 4] {
+    [0, width - 1, width, width + height - 2]
+}
+
 fn damaged(run: &mut Run) {
     let damages = damages();
     for board in boards::to_damage() {
-        // From the first column, from the last column into the rows, from the first row, and from the
-        // last row but one, which on a small board may be a column.
-        let Board { width, height } = board;
-        for line in [0, width - 1, width, width + height - 2] {
+        for line in turns(board) {
             for budget in [2, u32::MAX] {
                 let call = sound(board, line, budget, &mut run.generator);
                 damage::hold(run, &call, &damages, SliceCase::new);
             }
         }
     }
+    let largest = sound(LARGEST, 0, 2, &mut run.generator);
+    damage::hold_short(run, &largest, &[], SliceCase::new);
 }

@@ -14,12 +14,12 @@ use mathlib.Core.Bool.{true, not, cond, _&&_}
 use mathlib.Core.List.{List, [], _∷_}
 use Prim.Native.Nat.{ℕ, zero, suc, _+_, _*_, _≤_, _<_}
 use native.Mathlib.Decide.{decLe}
-use native.Mathlib.Nat.{le-refl, mul-le-mul}
+use native.Mathlib.Nat.{le-refl}
 use native.Mathlib.Omega.{arith}
 use lib.Dec.{leb, eqb, leb→le}
 use lib.IntN.{ℤ}
 use lib.Ieee.{toBits, size}
-use lib.ListN.{length, getD, drop, getD-replicate}
+use lib.ListN.{length, drop}
 use mir.Facts.{not-T, and-yes, eqb-no, no-eqb}
 use Rattle.rules.specs.declared.Setting.{Setting}
 use Rattle.rules.specs.Limits.{mark}
@@ -46,6 +46,7 @@ use Rattle.rules.proofs.LaneTest.{Test, never, so, both, given, below, 
 use Rattle.rules.proofs.Samples.{least, least-means, bored, bored-tests, unmarked, unmarked-tests}
 use Rattle.rules.proofs.Samples.{map-site, map-site-means, cost-map-site, cost-map-site-means}
 use Rattle.rules.proofs.Samples.{changes, changes-means, Floods, floods, goes, goes-means}
+use Rattle.rules.proofs.Farthest.{first-only, square-most}
 use Rattle.rules.proofs.Edges.{fits, k-of, opens, opens-means, bad, bad-is}
 
 -- nothing is to be tested
@@ -280,11 +281,7 @@ corner = 0 ∷ 0 ∷ 0 ∷ 0 ∷ []
 
 -- it bores cell 0 and no other
 corner-only : (i j : ℕ) → i < 64 → j < 64 → Bored 64 (bored-by corner) i j → (i ≡ 0) × (j ≡ 0)
-corner-only i j l m e = at-cell (cell 64 i j) refl e
-  where
-    at-cell : (c : ℕ) → cell 64 i j ≡ c → getD (bored-by corner) c 0 ≡ 1 → (i ≡ 0) × (j ≡ 0)
-    at-cell zero q e = omega arith
-    at-cell (suc c) q e = absurd (omega (arith, getD-replicate {A = ℕ} 4095 c 0 0 (omega arith)))
+corner-only i j l m e = first-only {w = 64} {h = 64} l m e
 
 -- so the word of (x, y) is x² + y²
 corner-word : (x y d : ℕ) → BenchWord (bored-by corner) x y d → d ≡ x * x + y * y
@@ -317,9 +314,6 @@ corner-farthest = record {
   least-cell = λ x y l m t. last x y l m (corner-word x y 7938 t);
 }
   where
-    square-most : (x n : ℕ) → x ≤ n → x * x ≤ n * n
-    square-most x n l = mul-le-mul l l
-
     last : (x y : ℕ) → x < 64 → y < 64 → 7938 ≡ x * x + y * y → 4095 ≤ cell 64 x y
     last x y l m e =
         by-cases (decLe 63 x)

@@ -19,6 +19,7 @@ pub mod Measures
 pub mod StandIn
 pub mod Table
 pub mod Samples
+pub mod Farthest
 pub mod Edges
 pub mod Figures
 pub mod Pinned

@@ -1,13 +1,13 @@
 -- "Sample boards": every starred line of document 01, and what document 02 adds to it, as one list of values of one type,
 -- and what each says of the rules. Where a line names no kind, kind 0 is meant. Beside it stands a second list of the same
 -- type, of boards that are ours: 01 read aright and a likely misreading of it differ there. `proofs/Samples.antt` proves
--- the claim `Shown` of either list. Assumes nothing.
+-- the claim `Shown` of either list, and `proofs/Farthest.antt` the farthest word. Assumes nothing.
 use mathlib.Core.Path.{_≡_}
 use mathlib.Core.List.{List, [], _∷_}
-use Prim.Native.Nat.{ℕ, _<_}
+use Prim.Native.Nat.{ℕ, _-_, _*_, _≤_, _<_}
 use lib.IntN.{ℤ, pos, negsuc}
-use lib.ListN.{getD}
-use Rattle.rules.specs.Board.{cell}
+use lib.ListN.{getD, replicate}
+use Rattle.rules.specs.Board.{Sides, cell}
 use Rattle.rules.specs.Tie.{MapWord, MapSite, CostMapWord, CostMapSite}
 use Rattle.rules.specs.Changeover.{Changeover}
 use Rattle.rules.specs.Knob.{clear-byte}
@@ -110,3 +110,15 @@ telling =
 abbrev pub Shown : List Sample → Type 0
 Shown [] = Unit {0}
 Shown (s ∷ ss) = SampleHolds s × Shown ss
+
+-- the picture whose one bore is in its first cell
+abbrev pub first-bored : ℕ → ℕ → List ℕ
+first-bored w h = 1 ∷ replicate (w * h - 1) 0
+
+-- Document 02, E3: "The farthest word on a one-bore board is 8,380,418.": d is the word of the last cell of the largest
+-- board whose one bore is in its first, and no word of kind 0 of a picture is greater, whatever the board and the bores
+pub record FarthestWord (d : ℕ) : Type 0 where
+  pub on-board : Sides 2_048 2_048
+  pub attained : MapWord 0 0 0 2_048 2_048 (first-bored 2_048 2_048) 2_047 2_047 d
+  pub greatest : (w h : ℕ) (picture : List ℕ) (x y word : ℕ)
+      → Sides w h → x < w → y < h → MapWord 0 0 0 w h picture x y word → word ≤ d

@@ -17,11 +17,17 @@ impl Generator {
 
     /// Any word.
     pub fn word(&mut self) -> u32 {
+        self.word_and_coin().0
+    }
+
+    /// Any word, and a coin tossed beside it: both from one step, for lists of millions.
+    pub fn word_and_coin(&mut self) -> (u32, bool) {
         self.state ^= self.state >> 12;
         self.state ^= self.state << 25;
         self.state ^= self.state >> 27;
-        // The upper half of the product is the better one.
-        (self.state.wrapping_mul(0x2545_F491_4F6C_DD1D) >> 32) as u32
+        // The upper half of the product is the better one; the coin is the first bit below it.
+        let product = self.state.wrapping_mul(0x2545_F491_4F6C_DD1D);
+        ((product >> 32) as u32, product >> 31 & 1 == 1)
     }
 
     /// A number below the bound.

@@ -36,7 +36,7 @@ pub struct ClearCall {
 }
 
 impl ClearCall {
-    /// Row 4: "clear-map slices unequal, empty or over 4,194,304".
+    /// Row 4: "clear-map slices unequal, empty or over" the greatest length.
     fn bad_slices(&self) -> bool {
         let length = self.squares.len();
         length != self.clear || length == 0 || length > CLEAR

@@ -39,7 +39,7 @@ impl<P, A> BoardCall<P, A> {
         BoardCall { board, picture, lent: Lengths::least(board), asked }
     }
 
-    /// Row 1: "W or H is 0 or above 2,048".
+    /// Row 1: "W or H is 0 or above" the longest side.
     pub fn bad_sides(&self) -> bool {
         let bad = |side| side == 0 || side > SIDE;
         bad(self.board.width) || bad(self.board.height)

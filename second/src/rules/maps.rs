@@ -31,7 +31,7 @@ pub trait MapRule {
     }
 }
 
-/// The table of measures. It is asked for each cell and each bore, and not called from afar.
+/// The table of measures. It is asked of each cell with each bore, so it had better be inlined.
 #[inline]
 pub fn distance(measure: Measure, dx: u32, dy: u32) -> u32 {
     let (less, more) = (dx.min(dy), dx.max(dy));

@@ -1,6 +1,6 @@
-//! Times every entry of the archive against a plain program, and maps in slices against maps in one
-//! go. A report, not a test; but programs that do not give the same answer are not timed, and end it
-//! with the exit status 1.
+//! Times every entry of the archive against a plain program, the parts of a map, and maps in slices
+//! against maps in one go. A report, not a test; but programs that do not give the same answer are
+//! not timed, and end it with the exit status 1.
 //!
 //! usage: bench
 //!
@@ -13,138 +13,109 @@ mod contest;
 mod longest_slice;
 mod off_board;
 mod on_boards;
+mod parts;
 mod plain;
 mod slices;
 mod table;
 
-use boards::{Drawing, TURN};
-use contest::{times, Times, TURNS};
+use boards::{square, Drawing, SIDES, TURN};
+use contest::{times, Timed};
 use off_board::{Changeovers, Openings};
 use olavinthu::{Board, CostKind, Measure};
 use on_boards::{ClearMaps, Lanes, Maps};
-use second::rules::limits::SIDE;
 use std::process::ExitCode;
+use std::time::{Duration, Instant};
+use table::{compared, head, Report, Row, Table};
 
-const SIDES: [u32; 3] = [64, 256, SIDE];
+/// How often all figures are timed, at the least; the best time of each counts.
+const PASSES: u32 = 3;
 
-/// How often all figures are timed; the best time of each counts.
-const PASSES: u32 = 4;
+/// Until when a further pass is begun, so that the report takes less than three minutes.
+const FURTHER: Duration = Duration::from_secs(120);
 
-/// An entry on boards, and how its turns on one drawing are timed.
-type OnBoards = (&'static str, fn(Board, Drawing) -> Result<Times, usize>);
+/// An entry on boards, and how it is timed on one drawing.
+type OnBoards = (&'static str, fn(Board, Drawing) -> Timed<2>);
 
-const ON_BOARDS: [OnBoards; 8] = [
+const ENTRIES: [OnBoards; 7] = [
     ("`olv_map` 0 Euclid", |board, drawing| maps(board, drawing, Measure::EUCLID)),
     ("`olv_map` 1 Manhattan", |board, drawing| maps(board, drawing, Measure::MANHATTAN)),
     ("`olv_map` 2 chessboard", |board, drawing| maps(board, drawing, Measure::CHESSBOARD)),
     ("`olv_map` 3 chamfer 3, 4", |board, drawing| maps(board, drawing, Measure::chamfer(3, 4))),
     ("`olv_cost_map` 0 Euclid", |board, drawing| cost_maps(board, drawing, CostKind::Euclid)),
     ("`olv_cost_map` 1 Manhattan", |board, drawing| cost_maps(board, drawing, CostKind::Manhattan)),
-    ("`olv_lane`", |board, drawing| times(&mut Lanes::new(board), &drawing.pictures(board))),
     ("`olv_clear`", clear_maps),
 ];
 
-fn maps(board: Board, drawing: Drawing, measure: Measure) -> Result<Times, usize> {
-    times(&mut Maps::of_pictures(board, measure), &drawing.pictures(board))
+/// Lanes have a table of their own, for the wall.
+const LANES: [OnBoards; 1] = [("`olv_lane`", lanes)];
+
+fn maps(board: Board, drawing: Drawing, measure: Measure) -> Timed<2> {
+    times(&mut Maps::of_pictures(board, measure), &drawing.pictures(board), board.cells())
 }
 
-fn cost_maps(board: Board, drawing: Drawing, kind: CostKind) -> Result<Times, usize> {
-    times(&mut Maps::of_costs(board, kind), &drawing.costs(board))
+fn cost_maps(board: Board, drawing: Drawing, kind: CostKind) -> Timed<2> {
+    times(&mut Maps::of_costs(board, kind), &drawing.costs(board), board.cells())
 }
 
-fn clear_maps(board: Board, drawing: Drawing) -> Result<Times, usize> {
+fn clear_maps(board: Board, drawing: Drawing) -> Timed<2> {
     let pictures = drawing.pictures(board);
     let squares = pictures.iter().map(|picture| ClearMaps::squares(board, picture));
-    times(&mut ClearMaps::new(board), &squares.collect::<Vec<_>>())
+    times(&mut ClearMaps::new(board), &squares.collect::<Vec<_>>(), board.cells())
 }
 
-/// An entry without a board, and how its turns are timed.
-type OffBoard = (&'static str, fn() -> Result<Times, usize>);
-
-const OFF_BOARD: [OffBoard; 2] = [
-    ("`olv_open`", || times(&mut Openings::default(), &Openings::inputs(TURN))),
-    ("`olv_changeover`", || times(&mut Changeovers::default(), &Changeovers::inputs(TURN))),
-];
-
-/// One figure of the table: what it is of, and how its turns are timed.
-struct Figure {
-    name: String,
-    timed: Box<dyn Fn() -> Result<Times, usize>>,
+fn lanes(board: Board, drawing: Drawing) -> Timed<2> {
+    times(&mut Lanes::new(board), &drawing.pictures(board), board.cells())
 }
 
-/// All figures: by entry, side and drawing, and then those of the entries that have no board.
-fn figures() -> Vec<Figure> {
-    let mut figures = vec![];
-    for ((name, timed), side) in rows() {
-        let board = Board { width: side, height: side };
-        figures.extend(Drawing::ALL.map(|drawing| Figure {
-            name: format!("{name}, side {side}, {}", drawing.name()),
-            timed: Box::new(move || timed(board, drawing)),
-        }));
+/// The times of entries on boards, by entry, side and drawing.
+fn on_boards(title: &'static str, entries: &[OnBoards], drawings: &[Drawing]) -> Table<2> {
+    let rows = entries.iter().flat_map(|&entry| SIDES.map(|side| (entry, side)));
+    let row = |((name, timed), side): (OnBoards, u32)| {
+        let names = vec![name.to_string(), side.to_string()];
+        Row::of_drawings(names, square(side), drawings, timed)
+    };
+    Table {
+        title,
+        head: head(&["entry", "side"], drawings),
+        rows: rows.map(row).collect(),
+        text: compared,
     }
-    let off_board = |(name, timed): OffBoard| Figure { name: name.into(), timed: Box::new(timed) };
-    figures.extend(OFF_BOARD.map(off_board));
-    figures
 }
 
-/// The rows of the table that have a side: each entry at each.
-fn rows() -> impl Iterator<Item = (OnBoards, u32)> {
-    ON_BOARDS.into_iter().flat_map(|entry| SIDES.map(|side| (entry, side)))
+/// The times of the entries that have no board.
+fn off_board() -> Table<2> {
+    let openings = || times(&mut Openings::default(), &Openings::inputs(TURN), 1);
+    let changeovers = || times(&mut Changeovers::default(), &Changeovers::inputs(TURN), 1);
+    Table {
+        title: "Nanoseconds of a call, ours/plain = ratio:",
+        head: vec!["entry", "a call"],
+        rows: vec![
+            Row::of_one("`olv_open`", openings),
+            Row::of_one("`olv_changeover`", changeovers),
+        ],
+        text: compared,
+    }
 }
 
-/// The best times of each figure, or where the two programs differ. A machine with other work on it
-/// has slow moments of some seconds; the passes are far enough from each other that no figure falls
-/// into one with all its turns.
-fn best_times() -> Result<Vec<Times>, String> {
-    let figures = figures();
-    let mut best = vec![Times::NONE; figures.len()];
-    for _ in 0..PASSES {
-        for (figure, best) in figures.iter().zip(&mut best) {
-            let differs = |at| format!("{}: answer {at} differs", figure.name);
-            *best = best.or_better((figure.timed)().map_err(differs)?);
+/// Times and prints all tables, or says where two programs differ.
+fn report() -> Result<(), String> {
+    let mut tables: [Box<dyn Report>; 7] = [
+        Box::new(on_boards("Nanoseconds a cell, ours/plain = ratio:", &ENTRIES, &Drawing::ALL)),
+        Box::new(on_boards("The same of lanes:", &LANES, &Drawing::OF_LANES)),
+        Box::new(off_board()),
+        Box::new(parts::table()),
+        Box::new(slices::long_calls()),
+        Box::new(slices::short_calls()),
+        Box::new(longest_slice::table()),
+    ];
+    let (start, mut passes) = (Instant::now(), 0);
+    while passes < PASSES || start.elapsed() < FURTHER {
+        passes += 1;
+        for table in &mut tables {
+            table.pass()?;
         }
     }
-    Ok(best)
-}
-
-/// Prints the times of a call.
-fn print_calls(on_boards: &[Times], off_board: &[Times]) {
-    let turns = PASSES * TURNS;
-    println!("Microseconds of a call, ours/plain = ratio, in the best of {turns} turns or more:\n");
-    table::head(&["entry", "side"]);
-    for (((name, _), side), times) in rows().zip(on_boards.chunks(Drawing::ALL.len())) {
-        let calls = TURN / (side * side) as usize;
-        let cells = times.iter().map(|&times| table::compared(times, calls));
-        table::row([name.to_string(), side.to_string()].into_iter().chain(cells));
-    }
-    for ((name, _), &times) in OFF_BOARD.into_iter().zip(off_board) {
-        let cells = [name, "no board", &table::compared(times, TURN), "", "", ""];
-        table::row(cells.map(str::to_string));
-    }
-}
-
-/// Prints what a cell takes the archive, so that it shows how this goes with the side.
-fn print_cells(on_boards: &[Times]) {
-    let sides = SIDES.map(|side| side.to_string()).join(", ");
-    println!("\nNanoseconds a cell, ours, at the sides {sides}:\n");
-    table::head(&["entry"]);
-    let drawings = Drawing::ALL.len();
-    for ((name, _), times) in ON_BOARDS.into_iter().zip(on_boards.chunks(SIDES.len() * drawings)) {
-        let on = |drawing: usize| times.iter().skip(drawing).step_by(drawings);
-        let figures = |drawing| on(drawing).map(|&times| table::a_cell(times)).collect::<Vec<_>>();
-        let cells = (0..drawings).map(|drawing| figures(drawing).join(", "));
-        table::row([name.to_string()].into_iter().chain(cells));
-    }
-}
-
-/// Prints all tables, or says where two programs differ.
-fn report() -> Result<(), String> {
-    let times = best_times()?;
-    let (on_boards, off_board) = times.split_at(times.len() - OFF_BOARD.len());
-    print_calls(on_boards, off_board);
-    print_cells(on_boards);
-    slices::report(PASSES)?;
-    longest_slice::report();
+    tables.iter().for_each(|table| table.print());
     Ok(())
 }
 

@@ -1,6 +1,6 @@
 //! The contests that have no board: openings and changeovers.
 
-use crate::contest::Contest;
+use crate::contest::{Contest, OURS};
 use crate::plain;
 use olavinthu::{Opened, Setting};
 use second::generator::Generator;
@@ -22,18 +22,17 @@ impl Openings {
     }
 }
 
-impl Contest for Openings {
+impl Contest<2> for Openings {
     type Input = Setting;
 
-    fn ours(&mut self, setting: &Setting) {
-        self.ours = olavinthu::open(*setting).ok();
+    fn answer(&mut self, program: usize, setting: &Setting) {
+        match program {
+            OURS => self.ours = olavinthu::open(*setting).ok(),
+            _ => self.plain = plain::open(*setting),
+        }
     }
 
-    fn plain(&mut self, setting: &Setting) {
-        self.plain = plain::open(*setting);
-    }
-
-    fn same(&self) -> bool {
+    fn same(&mut self) -> bool {
         self.ours == self.plain
     }
 }
@@ -53,19 +52,20 @@ impl Changeovers {
     }
 }
 
-impl Contest for Changeovers {
+impl Contest<2> for Changeovers {
     type Input = ChangeoverCall;
 
-    fn ours(&mut self, call: &ChangeoverCall) {
-        self.ours = olavinthu::changeover(call.i, call.u, call.a, call.b).ok();
+    fn answer(&mut self, program: usize, call: &ChangeoverCall) {
+        match program {
+            OURS => self.ours = olavinthu::changeover(call.i, call.u, call.a, call.b).ok(),
+            _ => {
+                let [i, u, a, b] = [call.i, call.u, call.a, call.b].map(i64::from);
+                self.plain = plain::changeover(i, u, a, b);
+            }
+        }
     }
 
-    fn plain(&mut self, call: &ChangeoverCall) {
-        let [i, u, a, b] = [call.i, call.u, call.a, call.b].map(i64::from);
-        self.plain = plain::changeover(i, u, a, b);
-    }
-
-    fn same(&self) -> bool {
+    fn same(&mut self) -> bool {
         self.ours.map(i64::from) == Some(self.plain)
     }
 }

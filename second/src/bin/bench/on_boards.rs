@@ -1,8 +1,8 @@
 //! The contests on a board: maps, cost maps, lanes and clear maps.
 
-use crate::contest::Contest;
+use crate::contest::{Contest, OURS};
 use crate::plain::{self, PlainLane, PlainMap};
-use olavinthu::{Board, Buffers, CostKind, Lane, Measure, Refusal, Setting};
+use olavinthu::{Board, Buffers, CostKind, Lane, Measure, Refusal, Setting, MARK};
 
 /// The lists that the archive is lent for a map.
 pub struct Lent {
@@ -16,9 +16,9 @@ impl Lent {
     pub fn new(board: Board) -> Lent {
         Lent {
             board,
-            distances: vec![0; board.cells()],
-            sites: vec![0; board.cells()],
-            scratch: vec![0; board.scratch_words()],
+            distances: vec![MARK; board.cells()],
+            sites: vec![MARK; board.cells()],
+            scratch: vec![MARK; board.scratch_words()],
         }
     }
 
@@ -28,6 +28,12 @@ impl Lent {
             sites: &mut self.sites,
             scratch: &mut self.scratch,
         }
+    }
+
+    /// The map of a picture in one go.
+    pub fn map(&mut self, measure: Measure, picture: &[u8]) {
+        let made = olavinthu::map(self.board, measure, picture, self.buffers());
+        made.expect("the picture is good");
     }
 
     fn holds(&self, map: &PlainMap) -> bool {
@@ -68,19 +74,21 @@ impl Maps<u32, CostKind> {
     }
 }
 
-impl<P, A: Copy> Contest for Maps<P, A> {
+impl<P, A: Copy> Contest<2> for Maps<P, A> {
     type Input = Vec<P>;
 
-    fn ours(&mut self, picture: &Vec<P>) {
-        let made = (self.our_map)(self.lent.board, self.asked, picture, self.lent.buffers());
-        made.expect("the picture is good");
+    fn answer(&mut self, program: usize, picture: &Vec<P>) {
+        match program {
+            OURS => {
+                let (board, buffers) = (self.lent.board, self.lent.buffers());
+                let made = (self.our_map)(board, self.asked, picture, buffers);
+                made.expect("the picture is good");
+            }
+            _ => (self.plain_map)(&mut self.plain, self.asked, picture),
+        }
     }
 
-    fn plain(&mut self, picture: &Vec<P>) {
-        (self.plain_map)(&mut self.plain, self.asked, picture);
-    }
-
-    fn same(&self) -> bool {
+    fn same(&mut self) -> bool {
         self.lent.holds(&self.plain)
     }
 }
@@ -99,27 +107,28 @@ impl Lanes {
         Lanes {
             last: board.cells() as u32 - 1,
             lent: Lent::new(board),
-            path: vec![0; board.cells()],
+            path: vec![MARK; board.cells()],
             found: Lane { width: 0, cells: 0 },
             plain: PlainLane::new(board),
         }
     }
 }
 
-impl Contest for Lanes {
+impl Contest<2> for Lanes {
     type Input = Vec<u8>;
 
-    fn ours(&mut self, picture: &Vec<u8>) {
-        let (board, buffers) = (self.lent.board, self.lent.buffers());
-        let found = olavinthu::lane(board, picture, 0, self.last, buffers, &mut self.path);
-        self.found = found.expect("the picture is good");
+    fn answer(&mut self, program: usize, picture: &Vec<u8>) {
+        match program {
+            OURS => {
+                let (board, buffers) = (self.lent.board, self.lent.buffers());
+                let found = olavinthu::lane(board, picture, 0, self.last, buffers, &mut self.path);
+                self.found = found.expect("the picture is good");
+            }
+            _ => self.plain.lane(picture, 0, self.last),
+        }
     }
 
-    fn plain(&mut self, picture: &Vec<u8>) {
-        self.plain.lane(picture, 0, self.last);
-    }
-
-    fn same(&self) -> bool {
+    fn same(&mut self) -> bool {
         let Lane { width, cells } = self.found;
         let lane = &self.path[..cells as usize];
         self.lent.holds(&self.plain.map) && width == self.plain.width && lane == self.plain.path
@@ -136,30 +145,31 @@ impl ClearMaps {
     const SETTING: Setting = Setting { pitch: 0.5, radius: 2.0 };
 
     pub fn new(board: Board) -> ClearMaps {
-        ClearMaps { ours: vec![0; board.cells()], plain: vec![0; board.cells()] }
+        ClearMaps { ours: vec![2; board.cells()], plain: vec![2; board.cells()] }
     }
 
     /// The squared distances that are asked about.
     pub fn squares(board: Board, picture: &[u8]) -> Vec<u32> {
-        let mut map = PlainMap::new(board);
-        map.map(Measure::EUCLID, picture);
-        map.distances
+        let mut lent = Lent::new(board);
+        lent.map(Measure::EUCLID, picture);
+        lent.distances
     }
 }
 
-impl Contest for ClearMaps {
+impl Contest<2> for ClearMaps {
     type Input = Vec<u32>;
 
-    fn ours(&mut self, squares: &Vec<u32>) {
-        let made = olavinthu::clear(Self::SETTING, squares, &mut self.ours);
-        made.expect("the setting is good");
+    fn answer(&mut self, program: usize, squares: &Vec<u32>) {
+        match program {
+            OURS => {
+                let made = olavinthu::clear(Self::SETTING, squares, &mut self.ours);
+                made.expect("the setting is good");
+            }
+            _ => plain::clear(Self::SETTING, squares, &mut self.plain),
+        }
     }
 
-    fn plain(&mut self, squares: &Vec<u32>) {
-        plain::clear(Self::SETTING, squares, &mut self.plain);
-    }
-
-    fn same(&self) -> bool {
+    fn same(&mut self) -> bool {
         self.ours == self.plain
     }
 }

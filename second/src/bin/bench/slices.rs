@@ -1,130 +1,109 @@
 //! Maps in slices, against the same maps in one go.
 
-use crate::boards::Drawing;
-use crate::contest::{best_turns, turn};
+use crate::boards::{square, Drawing, SIDES};
+use crate::contest::{times, Contest, Timed};
 use crate::on_boards::Lent;
-use crate::table;
-use olavinthu::{Board, Measure, SliceKind};
-use second::rules::limits::SIDE;
-use std::array::from_fn;
-use std::time::Duration;
+use crate::table::{head, to_the_first, Row, Table};
+use olavinthu::{Board, Measure, SliceKind, MARK};
 
-/// The sides that are timed. 508 stands beside the greatest for being no power of two.
-const SIDES: [u32; 4] = [64, 256, 508, SIDE];
+/// A kind that there are slices of: its name, and how either way asks for it.
+pub type Kind = (&'static str, SliceKind, Measure);
 
-/// The kinds that there are slices of: a name, and how either way asks for it.
-pub const KINDS: [(&str, SliceKind, Measure); 3] = [
-    ("0 Euclid", SliceKind::Euclid, Measure::EUCLID),
+pub const EUCLID: Kind = ("0 Euclid", SliceKind::Euclid, Measure::EUCLID);
+
+pub const KINDS: [Kind; 3] = [
+    EUCLID,
     ("1 Manhattan", SliceKind::Manhattan, Measure::MANHATTAN),
     ("2 chessboard", SliceKind::Chessboard, Measure::CHESSBOARD),
 ];
 
-/// How a map is made: in one go, or in slices of all lines, of 64 and of a single one.
-const WAYS: usize = 4;
-
-/// The budget of a call, for a map in slices; none for one go.
-fn budget(way: usize, board: Board) -> Option<u32> {
-    [None, Some(board.width + board.height), Some(64), Some(1)][way]
+/// Makes maps in slices.
+pub struct Slicer {
+    kind: SliceKind,
+    lent: Lent,
 }
 
-/// Makes maps of one kind in either way, each in lists of its own.
+impl Slicer {
+    pub fn new(board: Board, kind: SliceKind) -> Slicer {
+        Slicer { kind, lent: Lent::new(board) }
+    }
+
+    /// One call. Answers the next line.
+    pub fn slice(&mut self, line: u32, budget: u32, picture: &[u8]) -> u32 {
+        let (board, buffers) = (self.lent.board, self.lent.buffers());
+        let made = olavinthu::slice(board, self.kind, line, budget, picture, buffers);
+        let slice = made.expect("the call is good");
+        assert!(slice.stopped.is_none(), "the picture is good");
+        slice.next
+    }
+
+    /// A whole map.
+    fn map(&mut self, budget: u32, picture: &[u8]) {
+        let Board { width, height } = self.lent.board;
+        let mut line = 0;
+        while line < width + height {
+            line = self.slice(line, budget, picture);
+        }
+    }
+}
+
+/// Makes maps of one kind: in one go, and then in slices of each budget.
 struct Maker {
-    kind: SliceKind,
     measure: Measure,
     in_one_go: Lent,
-    in_slices: Lent,
+    budgets: &'static [u32],
+    in_slices: Slicer,
 }
 
-impl Maker {
-    fn make(&mut self, way: usize, picture: &[u8]) {
-        match budget(way, self.in_one_go.board) {
-            None => self.one_go(picture),
-            Some(budget) => self.slices(budget, picture),
+impl<const WAYS: usize> Contest<WAYS> for Maker {
+    type Input = Vec<u8>;
+
+    fn answer(&mut self, way: usize, picture: &Vec<u8>) {
+        match way {
+            0 => self.in_one_go.map(self.measure, picture),
+            _ => self.in_slices.map(self.budgets[way - 1], picture),
         }
     }
 
-    fn one_go(&mut self, picture: &[u8]) {
-        let board = self.in_one_go.board;
-        let made = olavinthu::map(board, self.measure, picture, self.in_one_go.buffers());
-        made.expect("the picture is good");
-    }
-
-    fn slices(&mut self, budget: u32, picture: &[u8]) {
-        let board = self.in_slices.board;
-        let mut line = 0;
-        while line < board.width + board.height {
-            let buffers = self.in_slices.buffers();
-            let made = olavinthu::slice(board, self.kind, line, budget, picture, buffers);
-            let slice = made.expect("the call is good");
-            assert!(slice.stopped.is_none(), "the picture is good");
-            line = slice.next;
-        }
-    }
-
-    /// Whether the slices of this way leave the map of one go, in every cell.
-    fn same(&mut self, way: usize, picture: &[u8]) -> bool {
-        // What an earlier way has left may not count.
-        self.in_slices = Lent::new(self.in_slices.board);
-        self.make(way, picture);
-        let (one, other) = (&self.in_one_go, &self.in_slices);
-        one.distances == other.distances && one.sites == other.sites
+    fn same(&mut self) -> bool {
+        let (one, other) = (&self.in_one_go, &mut self.in_slices.lent);
+        let same = one.distances == other.distances && one.sites == other.sites;
+        // What one way of slicing has left may not count for the next.
+        other.distances.fill(MARK);
+        other.sites.fill(MARK);
+        same
     }
 }
 
-/// One figure of the table: the maps of one kind on one drawing.
-#[derive(Clone, Copy)]
-struct Figure {
-    kind: usize,
-    side: u32,
-    drawing: Drawing,
+/// The ratio of each budget to one go, by kind, side and drawing.
+fn table<const WAYS: usize>(
+    title: &'static str,
+    budgets: &'static [u32],
+    sides: [u32; 3],
+) -> Table<WAYS> {
+    let rows = KINDS.into_iter().flat_map(|kind| sides.map(|side| (kind, side)));
+    let row = |((name, kind, measure), side): (Kind, u32)| {
+        let timed = move |board: Board, drawing: Drawing| -> Timed<WAYS> {
+            let (in_one_go, in_slices) = (Lent::new(board), Slicer::new(board, kind));
+            let mut maker = Maker { measure, in_one_go, budgets, in_slices };
+            times(&mut maker, &drawing.pictures(board), board.cells())
+        };
+        let names = vec![name.to_string(), side.to_string()];
+        Row::of_drawings(names, square(side), &Drawing::ALL, timed)
+    };
+    let head = head(&["`olv_slice`", "side"], &Drawing::ALL);
+    Table { title, head, rows: rows.map(row).collect(), text: to_the_first }
 }
 
-/// All figures: by kind, side and drawing.
-fn figures() -> impl Iterator<Item = Figure> {
-    rows().flat_map(|(kind, side)| Drawing::ALL.map(|drawing| Figure { kind, side, drawing }))
+/// In calls of all lines and of 64.
+pub fn long_calls() -> Table<3> {
+    let title = "Maps in slices: the time of a whole map to that of `olv_map`, in one call of all \
+        lines, in calls of 64 lines:";
+    table(title, &[u32::MAX, 64], SIDES)
 }
 
-/// The rows of the table: each kind at each side.
-fn rows() -> impl Iterator<Item = (usize, u32)> {
-    (0..KINDS.len()).flat_map(|kind| SIDES.map(|side| (kind, side)))
-}
-
-impl Figure {
-    /// The best turn of each way, or where slices and one go differ. All are compared first.
-    fn times(self) -> Result<[Duration; WAYS], String> {
-        let board = Board { width: self.side, height: self.side };
-        let (name, kind, measure) = KINDS[self.kind];
-        let pictures = self.drawing.pictures(board);
-        let mut maker =
-            Maker { kind, measure, in_one_go: Lent::new(board), in_slices: Lent::new(board) };
-        for picture in &pictures {
-            maker.one_go(picture);
-            if (1..WAYS).any(|way| !maker.same(way, picture)) {
-                let (side, drawing) = (self.side, self.drawing.name());
-                return Err(format!("slices of {name}, side {side}, {drawing}: the map differs"));
-            }
-        }
-        Ok(best_turns(|way| turn(&pictures, |picture| maker.make(way, picture))))
-    }
-}
-
-/// Times all figures in so many passes, and prints the ratio of each kind of slices to one go.
-pub fn report(passes: u32) -> Result<(), String> {
-    let mut best = vec![[Duration::MAX; WAYS]; figures().count()];
-    for _ in 0..passes {
-        for (figure, best) in figures().zip(&mut best) {
-            let times = figure.times()?;
-            *best = from_fn(|way| best[way].min(times[way]));
-        }
-    }
-    println!(
-        "\nThe time of a map in slices to that of `olv_map`: in one call of all lines, in calls"
-    );
-    println!("of 64 lines, and in calls of a single line:\n");
-    table::head(&["`olv_slice`", "side"]);
-    for ((kind, side), times) in rows().zip(best.chunks(Drawing::ALL.len())) {
-        let cells = times.iter().map(table::to_the_first);
-        table::row([KINDS[kind].0.to_string(), side.to_string()].into_iter().chain(cells));
-    }
-    Ok(())
+/// In calls of a single line. 508 stands beside 512 for being no power of two; at 2,048 such maps
+/// would take longer than all these together.
+pub fn short_calls() -> Table<2> {
+    table("The same in calls of a single line:", &[1], [64, 508, 512])
 }

@@ -67,12 +67,11 @@ pub fn unchanged<T: PartialEq>(name: &str, before: &[T], now: &[T]) -> Result<()
 }
 
 /// A word of rubbish. Half of them are small: a program that trusts what it finds in a buffer is
-/// rather caught by a number that could be a column, a row or a distance. The others are odd.
+/// rather caught by a number that could be a column, a row or a distance.
 pub fn rubbish(generator: &mut Generator) -> u32 {
-    let word = generator.word();
-    match word % 2 {
-        0 => word >> 28,
-        _ => word,
+    match generator.word_and_coin() {
+        (word, true) => word >> 28,
+        (word, false) => word,
     }
 }
 

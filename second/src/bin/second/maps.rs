@@ -84,8 +84,8 @@ fn few_bores(run: &mut Run, group: &'static str, board: Board, counts: &[u32]) {
     }
 }
 
-/// Drawn pictures, and random ones in which one cell in so many is bored. About so many cells of each
-/// are looked at.
+/// Drawn pictures, and random ones in which one cell in so many is bored. About so many cells of
+/// each are looked at.
 fn many_bores(run: &mut Run, group: &'static str, board: Board, one_in: &[u32], cells: usize) {
     let drawn = [pictures::chequerboard(board), pictures::diagonal(board)];
     let random = one_in.iter().map(|&many| pictures::random(board, many, &mut run.generator));

@@ -87,12 +87,12 @@ fn every_way(run: &mut Run, group: &'static str, board: Board, picture: &[u8]) {
 }
 
 /// Makes the map of one kind of one picture with one list of budgets; on a large board in one call,
-/// as many would take minutes.
+/// as single lines would take minutes.
 fn one_way(run: &mut Run, group: &'static str, board: Board, picture: &[u8]) {
     let kind = run.generator.below(SLICE_KIND + 1);
     let budgets = match board.cells() {
         0..=5_000 => run.generator.pick(&BUDGETS),
-        _ => run.generator.pick(&[ALL, MORE]),
+        _ => ALL,
     };
     chain(run, group, (board, picture), kind, budgets);
 }

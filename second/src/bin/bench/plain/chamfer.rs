@@ -13,7 +13,7 @@ pub struct Framed {
 
 impl Framed {
     pub fn new(m: usize, n: usize) -> Framed {
-        Framed { m, n, b: vec![0; (m + 2) * (n + 2)] }
+        Framed { m, n, b: vec![INFINITY; (m + 2) * (n + 2)] }
     }
 
     /// The chamfer map of a picture.

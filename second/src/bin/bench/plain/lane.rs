@@ -33,7 +33,7 @@ impl PlainLane {
             wide,
             words: vec![FRAME; framed],
             steps: vec![UNREACHED; framed],
-            queue: Vec::with_capacity(framed),
+            queue: vec![1; framed],
             width: 0,
             path: Vec::with_capacity(framed),
         }

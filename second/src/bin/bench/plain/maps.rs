@@ -29,13 +29,13 @@ impl PlainMap {
         PlainMap {
             m,
             n,
-            values: vec![0; m * n],
-            rows: vec![0; m * n],
+            values: vec![1; m * n],
+            rows: vec![1; m * n],
             column: vec![0; n],
             line: Line::new(m.max(n)),
             framed: Framed::new(m, n),
-            distances: vec![0; m * n],
-            sites: vec![0; m * n],
+            distances: vec![1; m * n],
+            sites: vec![1; m * n],
         }
     }
 

@@ -1,6 +1,6 @@
-//! Plain programs for the work of each entry, the maps as documents 001 to 003 print them. They test
-//! nothing that they are given and zero nothing afterwards. All their memory is made before the
-//! first run.
+//! Plain programs for the work of each entry, the maps as documents 001 to 003 print them. They
+//! test nothing that they are given and zero nothing afterwards. All their memory is made and
+//! filled before the first run.
 
 mod calls;
 mod chamfer;

@@ -17,6 +17,7 @@ pub fn compare(run: &mut Run) {
     random_boards(run);
     thin_boards(run);
     large_boards(run);
+    largest_board(run);
     single_calls(run);
     damaged(run);
 }
@@ -131,27 +132,28 @@ fn thin_boards(run: &mut Run) {
 }
 
 fn large_boards(run: &mut Run) {
-    few_bores(run, "512 by 512, few bores", MIDDLE, &[SIXTY_FOUR, ALL, ANY]);
-    few_bores(run, "2,048 by 2,048, few bores", LARGEST, &[ANY]);
+    for kind in 0..=SLICE_KIND {
+        let few = pictures::few(MIDDLE, 9, &mut run.generator);
+        for budgets in [SIXTY_FOUR, ALL, ANY] {
+            chain(run, "512 by 512, few bores", (MIDDLE, &few), kind, budgets);
+        }
+    }
     let many = pictures::random(MIDDLE, 50, &mut run.generator);
     let kind = run.generator.below(SLICE_KIND + 1);
     chain(run, "512 by 512, many bores", (MIDDLE, &many), kind, ANY);
-    some_lines(run);
 }
 
-/// Makes a map of each kind with some lists of budgets.
-fn few_bores(run: &mut Run, group: &'static str, board: Board, some: &[Budgets]) {
+/// The largest board, with one bore in a corner, for the greatest words that there are, and with a
+/// few. Then two lines at a time, where half the cells are bored and every word of a row names a
+/// cell; all lines of these would take minutes.
+fn largest_board(run: &mut Run) {
+    let corner = pictures::bored_at(LARGEST, &[(0, 0)]);
     for kind in 0..=SLICE_KIND {
-        let few = pictures::few(board, 9, &mut run.generator);
-        for &budgets in some {
-            chain(run, group, (board, &few), kind, budgets);
-        }
+        chain(run, "2,048 by 2,048, one bore", (LARGEST, &corner), kind, ALL);
     }
-}
-
-/// Two lines at a time of the largest board, where half the cells are bored and every word of a row
-/// names a cell. All lines would take minutes.
-fn some_lines(run: &mut Run) {
+    let few = pictures::few(LARGEST, 9, &mut run.generator);
+    let kind = run.generator.below(SLICE_KIND + 1);
+    chain(run, "2,048 by 2,048, few bores", (LARGEST, &few), kind, ANY);
     for line in turns(LARGEST) {
         let generator = &mut run.generator;
         let mut call = sound(LARGEST, line, 2, generator);

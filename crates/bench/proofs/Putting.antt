@@ -2,23 +2,15 @@
 -- of a number come in that order by themselves. Assumes nothing.
 use mathlib.Core.Path.{_≡_, refl, _∙_, sym, ap, subst}
 use mathlib.Core.List.{List, [], _∷_, _++_, append-assoc}
-use mathlib.Core.Bool.{Bool, true, false, cond}
 use Prim.Native.Nat.{ℕ, zero, suc, _+_, _-_, _/_, _%_, _^_, _≤_, _<_}
 use native.Mathlib.Nat.{pow-suc, div-lt-iff-lt-mul}
-use native.Mathlib.Numerals.{add-one}
 use native.Mathlib.Omega.{arith}
-use lib.Dec.{ltb, lit<}
+use lib.Dec.{lit<}
 use lib.ListN.{length, getD, set, drop, length-set}
-use lib.Seq.{lt-length-set, drop-length, drop-cons, getD-set-same, drop-set-lt}
-use borrow.Author.Tests.{lt-ltb, le-ltb}
+use lib.Seq.{drop-length, drop-cons}
 use Rattle.rules.specs.BenchFile.{digits, decimal, line}
+use Rattle.rules.proofs.Digits.{stored, one-digit, more-digits, digits-before}
 use Rattle.bench.specs.Putting.{Put, PutNumber, PutLine}
-
--- a byte stored at a place stands in front of what follows it
-stored : (l : List ℕ) (j v : ℕ) → j < length l → drop j (set l j v) ≡ v ∷ drop (j + 1) l
-stored l j v h =
-    drop-cons (set l j v) j 0 (lt-length-set l j v h)
-    ∙ rw (getD-set-same l j v 0 h, drop-set-lt (suc j) l j v (omega arith), add-one j)
 
 -- the bytes from i on have been put
 pub record Putting (end at : ℕ) (bytes before now : List ℕ) (i : ℕ) : Type 0 where
@@ -57,15 +49,6 @@ module _ {end at : ℕ} {bytes before : List ℕ} where
           begins = ends;
           reads = ap (λ n. drop n now) (sym from) ∙ P .reads ∙ ap (λ n. drop n bytes ++ drop end before) z;
         }
-
--- a number below 10 is one digit
-one-digit : (left rest : ℕ) (after : List ℕ) → rest < 10 → digits (suc left) rest after ≡ (48 + rest) ∷ after
-one-digit left rest after h = rw (lt-ltb rest 10 h)
-
--- another has its last digit behind those of its tenth
-more-digits : (left rest : ℕ) (after : List ℕ) → 10 ≤ rest
-    → digits (suc left) rest after ≡ digits left (rest / 10) ((48 + rest % 10) ∷ after)
-more-digits left rest after h = rw (le-ltb rest 10 h)
 
 -- the digits behind the place at have been put; those of the rest are to come, at most one more than are left
 pub record Spelling (end number : ℕ) (before now : List ℕ) (at rest : ℕ) : Type 0 where
@@ -132,16 +115,6 @@ module _ {end number : ℕ} {before : List ℕ} where
               stored now at (48 + rest) (omega (arith, S .behind, S .as-long))
               ∙ sym (one-digit (S .left) rest (drop (at + 1) now) h) ∙ S .reads;
         }
-
--- digits in front of some bytes are the digits, and then the bytes
-digits-before : (left n : ℕ) (first after : List ℕ) → digits left n (first ++ after) ≡ digits left n first ++ after
-digits-before zero n first after = refl
-digits-before (suc left) n first after =
-    either (ltb n 10) _ _ _ _ refl (digits-before left (n / 10) ((48 + n % 10) ∷ first) after)
-  where
-    either : (b : Bool) (x y u v : List ℕ) → x ≡ u ++ after → y ≡ v ++ after → cond b x y ≡ cond b u v ++ after
-    either true x y u v p q = p
-    either false x y u v p q = q
 
 -- a line's parts, put one in front of the other
 pub line-put : (word : List ℕ) (number : ℕ) (after : List ℕ)

@@ -22,10 +22,12 @@ use Rattle.rules.specs.Knob.{Good, good-word, pitch-word, radius-word}
 use Rattle.rules.specs.Refusals.{some, answer, bad-setting}
 use Rattle.rules.specs.Refusals.{bad-sides, bad-kind, bad-weights, bad-buffers, bad-path, bad-slices, bad-byte}
 use Rattle.rules.specs.Refusals.{bad-cost, no-bore, all-marked, bad-ends, good-value, bad-changeover, bad-length}
-use Rattle.rules.specs.Refusals.{bad-line, bad-word}
+use Rattle.rules.specs.Refusals.{bad-line, bad-word, short-text, bad-pitch}
 use Rattle.rules.specs.Calls.{Opened}
-use Rattle.rules.specs.Edges.{Edge, number, call, opening, no-opening, setting, EdgeHolds, Met, edges}
-use Rattle.rules.proofs.Knob.{some-means, some-holds, good-value-means, good-value-holds, opened-good}
+use Rattle.rules.specs.Millimetres.{word-32}
+use Rattle.rules.specs.Edges.{Edge, number, call, opening, no-opening, good-pitch, no-pitch, whole-root, setting}
+use Rattle.rules.specs.Edges.{EdgeHolds, Met, edges}
+use Rattle.rules.proofs.Knob.{some-means, some-holds, good-value-means, good-value-holds, pitch-good, opened-good}
 use Rattle.rules.proofs.Calls.{made-call}
 use Rattle.rules.proofs.Samples.{parts}
 
@@ -46,11 +48,11 @@ fits-means word k m t = record {
 }
 
 -- the word is good for k
-abbrev good-for : ℕ → ℕ → Bool
+abbrev pub good-for : ℕ → ℕ → Bool
 good-for word k = some 13 (fits word k)
 
 -- where that test passes, it is
-good-for-means : (word k : ℕ) → T (good-for word k) → Good word k
+pub good-for-means : (word k : ℕ) → T (good-for word k) → Good word k
 good-for-means word k t = let (m, l, u) = some-means 13 (fits word k) t in fits-means word k m u
 
 -- a setting opens to a and b
@@ -78,7 +80,7 @@ good-is {word} {k} g =
     omega (arith, g .power)
 
 -- the word is good for the one k of some m
-abbrev found : ℕ → Bool
+abbrev pub found : ℕ → Bool
 found word = some 13 (λ m. fits word (k-of word m) m)
 
 -- it is, where it is good for any k
@@ -113,17 +115,30 @@ pub bad-is : (s : Setting) → bad-setting s ≡ bad s
 unfolding bad-setting
 bad-is s = rw (quick (pitch-word s), quick (radius-word s)) refl
 
+-- and for a pitch by itself
+pub bad-pitch-is : (word : ℕ) → bad-pitch word ≡ not (found word)
+unfolding bad-pitch
+bad-pitch-is word = ap not (quick word)
+
 -- the test of an edge
 abbrev passes : Edge → Bool
 passes (number computed stated) = eqb computed stated
 passes (call rows n) = eqb (answer rows) n
 passes (opening pitch radius a b) = opens (setting pitch radius) a b
 passes (no-opening pitch radius) = bad (setting pitch radius)
+passes (good-pitch p a) = good-for (word-32 p) a
+passes (no-pitch p) = not (found (word-32 p))
+passes (whole-root x n) = leb (n * n) x && ltb x ((n + 1) * (n + 1))
 
 -- slices of one word are not refused
 one-word : bad-slices 1 1 ≡ false
 unfolding bad-slices
 one-word = refl
+
+-- nor are 20 bytes for a text
+twenty-bytes : short-text 20 ≡ false
+unfolding short-text
+twenty-bytes = refl
 
 -- an edge that passes holds
 sound : (e : Edge) → T (passes e) → EdgeHolds e
@@ -135,6 +150,12 @@ sound (no-opening pitch radius) t =
     let s = setting pitch radius in
     let e : bad-setting s ≡ true = bad-is s ∙ is-true (bad s) t in
     (rw e refl, rw (one-word, e) refl)
+sound (good-pitch p a) t =
+    let good = good-for-means (word-32 p) a t in (good, rw (pitch-good good) refl)
+sound (no-pitch p) t =
+    let e : bad-pitch (word-32 p) ≡ true = bad-pitch-is (word-32 p) ∙ is-true (not (found (word-32 p))) t in
+    (rw e refl, rw (twenty-bytes, e) refl)
+sound (whole-root x n) t = record { within = leb-yes (search parts); greatest = ltb-yes (search parts) }
 
 -- all edges of a list pass
 abbrev all-pass : List Edge → Bool
@@ -149,5 +170,5 @@ met-by (e ∷ es) t = (sound e (search parts), met-by es (search parts))
 -- every edge holds: all tests pass, once the tests of the rows and the words of values compute
 pub edges-met : Met edges
 unfolding bad-sides bad-kind bad-weights bad-buffers bad-path bad-slices bad-byte bad-cost no-bore all-marked bad-ends
-    good-value bad-setting bad-changeover bad-length bad-line bad-word toBits size
+    good-value bad-setting bad-changeover bad-length bad-line bad-word short-text bad-pitch toBits size
 edges-met = met-by edges tt

@@ -5,20 +5,20 @@
 -- tested cell by cell and word by word, with the tests of the samples for a map word, a site and a lane. What a test
 -- compares is not written again but read from the rule (`_`, and implicit arguments): so a test follows a rule that is
 -- bent, and no longer passes. The column that a row line takes is that of its site word. What convinces of the lane are the
--- labels of two floods, given here. The whole numbers of a clear map's setting are those that its words leave (`k-of`). A
+-- labels of two floods, given here. The whole numbers of a setting are those that its words leave (`k-of`). A
 -- board of 64 by 64 is too large for these tests; the numbers of the bench file are shown by hand: it bores the one cell
 -- (0, 0), so that the word of (x, y) is x² + y². Assumes nothing.
 use mathlib.Core.Path.{_≡_, refl, sym}
 use mathlib.Core.Logic.{_≢_, by-cases}
 use mathlib.Core.Bool.{true, not, cond, _&&_}
 use mathlib.Core.List.{List, [], _∷_}
-use Prim.Native.Nat.{ℕ, zero, suc, _+_, _*_, _≤_, _<_}
+use Prim.Native.Nat.{ℕ, zero, suc, _+_, _-_, _*_, _^_, _≤_, _<_}
 use native.Mathlib.Decide.{decLe}
 use native.Mathlib.Nat.{le-refl}
 use native.Mathlib.Omega.{arith}
 use lib.Dec.{leb, eqb, leb→le}
 use lib.IntN.{ℤ}
-use lib.Ieee.{toBits, size}
+use lib.Ieee.{Float, toBits, size}
 use lib.ListN.{length, drop}
 use mir.Facts.{not-T, and-yes, eqb-no, no-eqb}
 use Rattle.rules.specs.declared.Setting.{Setting}
@@ -28,26 +28,28 @@ use Rattle.rules.specs.Measures.{chamfer, chamfer-kind}
 use Rattle.rules.specs.Columns.{Nearest, ColumnWord, RowWord}
 use Rattle.rules.specs.Tie.{Least, MapSite, CostMapSite}
 use Rattle.rules.specs.Changeover.{Changeover}
-use Rattle.rules.specs.Knob.{pitch-word, radius-word}
+use Rattle.rules.specs.Knob.{Good, pitch-word, radius-word}
 use Rattle.rules.specs.Lane.{WidestLane}
 use Rattle.rules.specs.Answers.{bench-number, bench-sites, bench-farthest, bench-cell}
 use Rattle.rules.specs.BenchFile.{bored-by, BenchWord, Farthest}
 use Rattle.rules.specs.Refusals.{Row, row, answer, scratch-words, clear-rows, opening-rows}
 use Rattle.rules.specs.Refusals.{bad-sides, bad-kind, bad-weights, bad-buffers, bad-path, bad-slices, bad-byte}
 use Rattle.rules.specs.Refusals.{bad-cost, no-bore, all-marked, bad-ends, bad-changeover, bad-length}
-use Rattle.rules.specs.Refusals.{bad-line, bad-word}
+use Rattle.rules.specs.Refusals.{bad-line, bad-word, short-text, figure-rows, text-rows}
 use Rattle.rules.specs.Calls.{Call, Buffers, Beyond, MapAfter, SiteWord, LaneAfter, Opened, ClearAfter, BenchRead}
 use Rattle.rules.specs.Slices.{allowed, Among, SliceAfter, Chain}
 use Rattle.rules.specs.Figures.{Figure, picture-call, cost-call, lane-call, slice-call, chain, opening-call}
 use Rattle.rules.specs.Figures.{clear-call, changeover-call, bench-call, Slice, budgets, left, FigureHolds, AllHold}
-use Rattle.rules.specs.Figures.{figures}
+use Rattle.rules.specs.Figures.{millimetres-call, text-call, figures}
+use Rattle.rules.specs.Millimetres.{word-32, word-64, Root, FigureWord, Figured, Spelled, Told}
 use Rattle.rules.proofs.Calls.{refused-call, made-call}
 use Rattle.rules.proofs.LaneTest.{Test, never, so, both, given, below, at-most, if-at-most, same, if-same}
 use Rattle.rules.proofs.Samples.{least, least-means, bored, bored-tests, unmarked, unmarked-tests}
 use Rattle.rules.proofs.Samples.{map-site, map-site-means, cost-map-site, cost-map-site-means}
 use Rattle.rules.proofs.Samples.{changes, changes-means, Floods, floods, goes, goes-means}
 use Rattle.rules.proofs.Farthest.{first-only, square-most}
-use Rattle.rules.proofs.Edges.{fits, k-of, opens, opens-means, bad, bad-is}
+use Rattle.rules.proofs.Edges.{fits, k-of, good-for, good-for-means, found, opens, opens-means, bad, bad-is}
+use Rattle.rules.proofs.Edges.{bad-pitch-is}
 
 -- nothing is to be tested
 abbrev nothing : Test (Unit {0})
@@ -335,6 +337,56 @@ abbrev clear-is : (s : Setting) (squares clear n : ℕ) → Test (n ≡ answer (
 clear-is s squares clear n =
     so (same n (answer (row 4 (bad-slices squares clear) ∷ row 8 (bad s) ∷ []))) (λ e. rw (bad-is s) e)
 
+-- a pitch by itself is good for a
+abbrev pitch-opens : {word a : ℕ} → Test (Good word a)
+pitch-opens {word} {a} = record { passes = good-for word a; sound = good-for-means word a }
+
+-- the number of a call that tests a pitch is that of its rows
+abbrev millimetres-is : (pitch n : ℕ) → Test (n ≡ answer (figure-rows pitch))
+millimetres-is pitch n = so (same n (answer (row 8 (not (found pitch)) ∷ []))) (λ e. rw (bad-pitch-is pitch) e)
+
+abbrev text-is : (pitch bytes n : ℕ) → Test (n ≡ answer (text-rows pitch bytes))
+text-is pitch bytes n =
+    so (same n (answer (row 4 (short-text bytes) ∷ row 8 (not (found pitch)) ∷ []))) (λ e. rw (bad-pitch-is pitch) e)
+
+-- what a test takes for the root, one binary digit after the other: whether it is, the test sees
+abbrev root-of : ℕ → ℕ → ℕ → ℕ
+root-of zero n x = n
+root-of (suc k) n x = root-of k (cond (leb ((n + 2 ^ k) * (n + 2 ^ k)) x) (n + 2 ^ k) n) x
+
+-- n is the root
+abbrev rooted : {x n : ℕ} → Test (Root x n)
+rooted {x} {n} =
+    so (both (at-most (n * n) x) (at-most (suc x) ((n + 1) * (n + 1)))) (λ t. record { within = t .0; greatest = t .1 })
+
+-- the word is that of n
+abbrev worded : (word n : ℕ) → Test (FigureWord word n)
+worded word zero = same word 0
+worded word (suc n) =
+    so (both (both (at-most _ (suc n)) (at-most (suc (suc n)) _)) (same word _))
+    (λ t. record { m = size (suc n) - 1; power = t .0 .0; greatest = t .0 .1; word-is = t .1 })
+
+-- a figure tells the root
+abbrev figured : {out : Float} (x : ℕ) → Test (Figured x out)
+figured {out} x =
+    so (both rooted (worded (word-64 out) (root-of 32 0 x))) (λ t. record { n = root-of 32 0 x; root = t .0; figure = t .1 })
+
+-- a text tells it
+abbrev lettered : {before after : List ℕ} {count : ℕ} (x : ℕ) → Test (Spelled x before after count)
+lettered x =
+    so (both rooted (both (same _ _) (same-list _ _)))
+    (λ t. record {
+      n = root-of 32 0 x;
+      root = t .0;
+      text = record { count-is = t .1 .0; after-is = t .1 .1 };
+    })
+
+-- a pitch opens, and something is told
+abbrev told : {pitch : Float} {under : ℕ → ℕ} {Tells : ℕ → Type 0} → ((x : ℕ) → Test (Tells x))
+    → Test (Told pitch under Tells)
+told {pitch} test =
+    so (both pitch-opens (test _)) (λ t. record { a = whole (word-32 pitch) 13; pitch-good = t .0; tells = t .1 })
+
 -- a figure, with the labels of two floods for a lane
 abbrev figure : (labels wider : List ℕ) (f : Figure) → Test (FigureHolds f)
 figure labels wider (picture-call w h kind d1 d2 picture before n after) =
@@ -362,6 +414,8 @@ figure labels wider (bench-call bytes r output) =
         output-is = t .1;
       },
     ))
+figure labels wider (millimetres-call d pitch r) = ends _ (millimetres-is _ _) nothing (told figured)
+figure labels wider (text-call d pitch before r after) = ends _ (text-is _ _ _) (same-list _ _) (told lettered)
 
 -- all figures of a list
 abbrev all : (labels wider : List ℕ) (fs : List Figure) → Test (AllHold fs)
@@ -372,5 +426,5 @@ all labels wider (f ∷ fs) = both (figure labels wider f) (all labels wider fs)
 -- compute
 pub figures-hold : AllHold figures
 unfolding bad-sides bad-kind bad-weights bad-buffers bad-path bad-slices bad-byte bad-cost no-bore all-marked bad-ends
-    bad-changeover bad-length bad-line bad-word toBits size away chamfer
+    bad-changeover bad-length bad-line bad-word short-text toBits size away chamfer
 figures-hold = all (5 ∷ 0 ∷ 1 ∷ 2 ∷ 4 ∷ 3 ∷ 2 ∷ 3 ∷ []) (0 ∷ 0 ∷ 0 ∷ 0 ∷ 0 ∷ 0 ∷ 0 ∷ 0 ∷ []) figures .sound tt

@@ -7,28 +7,25 @@ use mathlib.Core.Path.{_≡_, refl, ap, _∙_, subst}
 use mathlib.Core.Logic.{_↔_, _⊎_, inl, inr, ⊎-elim, by-cases}
 use mathlib.Core.Bool.{Bool, true, false, not, _&&_, _||_, true≢false}
 use Prim.Native.Nat.{ℕ, zero, suc, _+_, _-_, _*_, _/_, _^_, _≤_, _<_}
-use native.Mathlib.Decide.{ℕ-discrete, decLe}
+use native.Mathlib.Decide.{ℕ-discrete}
 use native.Mathlib.Nat.{eq-of-mul-eq-mul-right}
 use native.Mathlib.Omega.{arith}
 use lib.Dec.{T, leb, ltb, eqb, leb→le, ltb→lt, eqb→eq}
-use lib.Pow.{pow-pos, pow-mono, pow-add, shl-lt, high}
+use lib.Pow.{pow-pos, pow-add, shl-lt, high}
+use lib.Ieee.Bits.{is-true}
 use lib.Ieee.Fits.{and-l, and-r}
 use mir.Facts.{or-yes}
 use borrow.Author.Tests.{le-leb, lt-ltb, eq-eqb}
 use Rattle.rules.specs.declared.Setting.{Setting}
 use Rattle.rules.specs.Limits.{knob-limit}
 use Rattle.rules.specs.Knob.{Good, good-word, pitch-word, radius-word}
-use Rattle.rules.specs.Refusals.{some, good-value, bad-setting}
+use Rattle.rules.specs.Refusals.{some, good-value, bad-setting, bad-pitch}
 use Rattle.rules.specs.Calls.{Opened}
-
--- where 2^m is below 2^(n+1), m is at most n
-power-at-most : (m n : ℕ) → 2 ^ m < 2 ^ (n + 1) → m ≤ n
-power-at-most m n h =
-    by-cases (decLe m n) (λ k. k) (λ k. absurd (omega (arith, pow-mono {i = n + 1} {j = m} (omega arith))))
+use Rattle.rules.proofs.FloatWord.{exponent-below, one-exponent}
 
 -- the m of a good word is at most 12
 good-power : {word k : ℕ} (g : Good word k) → g .m ≤ 12
-good-power g = power-at-most (g .m) 12 (omega (arith, g .power, g .to))
+good-power g = omega (arith, exponent-below (g .m) 13 (g .power) (omega (arith, g .to)))
 
 -- a good word over 2^23 tells its m
 good-exponent : {word k : ℕ} (g : Good word k) → word / 2 ^ 23 ≡ g .m + 121
@@ -51,10 +48,13 @@ good-k-unique {word} {k} {k′} g g′ =
 -- a k has one good word
 pub good-word-unique : {word word′ k : ℕ} → Good word k → Good word′ k → word ≡ word′
 good-word-unique {word} {word′} {k} g g′ =
-    let low : g .m ≤ g′ .m = power-at-most (g .m) (g′ .m) (omega arith) in
-    let top : g′ .m ≤ g .m = power-at-most (g′ .m) (g .m) (omega arith) in
-    let same : g .m ≡ g′ .m = omega arith in
+    let same : g .m ≡ g′ .m = one-exponent (g .power) (g .greatest) (g′ .power) (g′ .greatest) in
     cc (g .word-is, g′ .word-is)
+
+-- where the test of a failure fails, the test passes
+not-false : (b : Bool) → not b ≡ false → T b
+not-false true e = tt
+not-false false e = absurd (true≢false e)
 
 -- where either of two tests passes, so does their disjunction
 yes-or : (a b : Bool) → T a ⊎ T b → T (a || b)
@@ -110,6 +110,16 @@ good-value-holds {word} {k} g =
     some-holds knob-limit (λ (j : ℕ). some 13 (fits word j)) {k = k - 1} (omega arith)
     (some-holds 13 (fits word (k - 1)) {k = g .m} (omega (arith, good-power g))
     (rw (e, le-leb _ _ (g .power), lt-ltb _ _ (g .greatest), eq-eqb _ _ (g .word-is)) tt))
+
+-- a pitch that is not refused is good for some a
+pub pitch-passes : (word : ℕ) → bad-pitch word ≡ false → (a : ℕ) × Good word a
+unfolding bad-pitch
+pitch-passes word e = good-value-means word (not-false (good-value word) e)
+
+-- a good pitch is not refused
+pub pitch-good : {word a : ℕ} → Good word a → bad-pitch word ≡ false
+unfolding bad-pitch
+pitch-good {word} g = ap not (is-true (good-value word) (good-value-holds g))
 
 -- a setting opens to one pair of numbers
 pub opened-unique : {s : Setting} {a b a′ b′ : ℕ} → Opened s a b → Opened s a′ b′ → (a ≡ a′) × (b ≡ b′)

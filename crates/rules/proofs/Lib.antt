@@ -6,8 +6,11 @@ pub mod RowParts
 pub mod TieRule
 pub mod Columns
 pub mod Changeover
+pub mod FloatWord
 pub mod Knob
 pub mod KnobValue
+pub mod Digits
+pub mod Millimetres
 pub mod BenchFile
 pub mod Refusals
 pub mod SliceRows

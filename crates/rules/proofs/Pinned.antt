@@ -5,20 +5,23 @@
 -- the tie rule takes (for kind 3 the mark), a scratch word is 0, a path word is a cell of the best lane or the mark,
 -- and a clear byte follows from the knob's two whole numbers; two least words are equal, and so are two such cells, two
 -- best lanes and two openings. Beyond the words that a call writes, a list is as it was. Two lists of one length that
--- agree word by word are one list.
+-- agree word by word are one list. A number of millimetres and its text follow from the one root, and two f64 of one
+-- word are one.
 --
 -- An answer by cases is fixed as well. Its number tells the cases apart: a refusal with the number 0 would be an
--- accepted call with values that none has, a lane of no cells or a bench file with no bored cell.
+-- accepted call with values that none has, a lane of no cells, a bench file with no bored cell or a text of no bytes.
 --
 -- Assumes nothing.
-use mathlib.Core.Path.{_≡_, refl, sym, ap, _∙_}
+use mathlib.Core.Path.{_≡_, refl, sym, ap, _∙_, subst}
 use mathlib.Core.Logic.{_≢_, by-cases}
+use mathlib.Core.Bool.{true}
 use mathlib.Core.List.{List, [], _∷_}
 use Prim.Native.Nat.{ℕ, zero, suc, _+_, _-_, _*_, _≤_, _<_}
 use native.Mathlib.Decide.{decLt, ℕ-discrete}
 use native.Mathlib.Omega.{arith}
 use lib.IntN.{ℤ}
-use lib.ListN.{length, getD, take}
+use lib.Ieee.{Float, binary64, fits}
+use lib.ListN.{length, getD, take, length-append}
 use lib.Seq.{ext-getD, getD-take, getD-drop}
 use Rattle.rules.specs.declared.Setting.{Setting}
 use Rattle.rules.specs.declared.OpeningAnswer.{OpeningAnswer}
@@ -29,6 +32,10 @@ use Rattle.rules.specs.declared.LaneAnswer.{LaneAnswer}
 use Rattle.rules.specs.declared.LaneAnswer.the-variants.{Found, Refused as NoLane}
 use Rattle.rules.specs.declared.BenchAnswer.{BenchAnswer}
 use Rattle.rules.specs.declared.BenchAnswer.the-variants.{Read, Refused as NotRead}
+use Rattle.rules.specs.declared.FigureAnswer.{FigureAnswer}
+use Rattle.rules.specs.declared.FigureAnswer.the-variants.{Millimetres, Refused as NoFigure}
+use Rattle.rules.specs.declared.TextAnswer.{TextAnswer}
+use Rattle.rules.specs.declared.TextAnswer.the-variants.{Written as TextIs, Refused as NotWritten}
 use Rattle.rules.specs.Board.{cell}
 use Rattle.rules.specs.Measures.{chamfer-kind}
 use Rattle.rules.specs.Lane.{Lane}
@@ -40,10 +47,14 @@ use Rattle.rules.specs.Calls.{PictureCall, CostCall, LaneCall, OpeningCa
 use Rattle.rules.specs.Answers.{opening-number, opening-a, opening-b, changeover-number, changeover-at}
 use Rattle.rules.specs.Answers.{lane-number, lane-width, lane-cells}
 use Rattle.rules.specs.Answers.{bench-number, bench-sites, bench-farthest, bench-cell}
+use Rattle.rules.specs.Answers.{figure-number, figure-out, text-number, text-count}
+use Rattle.rules.specs.Millimetres.{word-64, millimetre-text, Figured, Spelled, Told, FigureOf, TextOf}
 use Rattle.rules.proofs.Board.{cell-of, column-below, row-below}
 use Rattle.rules.proofs.TieRule.{least-unique, map-site-unique, cost-map-site-unique}
 use Rattle.rules.proofs.Changeover.{changeover-unique}
-use Rattle.rules.proofs.Knob.{opened-unique}
+use Rattle.rules.proofs.Knob.{good-k-unique, opened-unique}
+use Rattle.rules.proofs.FloatWord.{one-value}
+use Rattle.rules.proofs.Millimetres.{root-unique, figure-word-unique}
 use Rattle.rules.proofs.BenchFile.{farthest-unique}
 use Rattle.rules.proofs.Lane.{best-unique-words}
 use Rattle.rules.proofs.Refusals.{clear-accepted}
@@ -291,3 +302,70 @@ bench-text-pinned p q =
     p .output-is ∙ same ∙ sym (q .output-is))
     (λ some. p .output-is ∙ refused-line (p .number) _ (q .sites) _ (q .farthest) _ (q .cell-number) some
     ∙ ap (λ k. text k (q .sites) (q .farthest) (q .cell-number)) n ∙ sym (q .output-is))
+
+-- a root is told by one word of an f64
+figured-pinned : {x : ℕ} {v v′ : Float} → Figured x v → Figured x v′ → word-64 v ≡ word-64 v′
+figured-pinned {v′ = v′} p q =
+    let same : p .n ≡ q .n = root-unique (p .root) (q .root) in
+    figure-word-unique (p .n) (p .figure) (rw same (q .figure))
+
+-- and by one text, one length and one list
+written-pinned : {x : ℕ} {before after after′ : List ℕ} {count count′ : ℕ} → Spelled x before after count
+    → Spelled x before after′ count′ → (count ≡ count′) × (after ≡ after′)
+written-pinned p q =
+    let same : p .n ≡ q .n = root-unique (p .root) (q .root) in
+    let count = p .text .count-is ∙ ap (λ n. length (millimetre-text n)) same ∙ sym (q .text .count-is) in
+    (count, cc (p .text .after-is, q .text .after-is))
+
+-- a pitch opens to one number, so what is told of it is pinned where what is told of a number is
+told-pinned : {pitch : Float} {under : ℕ → ℕ} {Tells Tells′ : ℕ → Type 0} {Same : Type 0}
+    → ((x : ℕ) → Tells x → Tells′ x → Same) → Told pitch under Tells → Told pitch under Tells′ → Same
+told-pinned {under = under} {Tells′ = Tells′} one p q =
+    let same : p .a ≡ q .a = good-k-unique (p .pitch-good) (q .pitch-good) in
+    one (under (p .a)) (p .tells) (subst (λ a. Tells′ (under a)) (sym same) (q .tells))
+
+-- a figure's call answers one number, and where it is 0 an f64 of one word
+pub figure-pinned : {under : ℕ → ℕ} {pitch v v′ : Float} {n n′ : ℕ} → FigureOf under pitch n v → FigureOf under pitch n′ v′
+    → (n ≡ n′) × (n ≡ 0 → word-64 v ≡ word-64 v′)
+figure-pinned p q = agreed p q (told-pinned (λ x. figured-pinned))
+
+-- a text's call answers one number and leaves the bytes in one way; where the number is 0, the length is one too
+pub text-pinned : {under : ℕ → ℕ} {pitch : Float} {before after after′ : List ℕ} {n n′ count count′ : ℕ}
+    → TextOf under pitch before n count after → TextOf under pitch before n′ count′ after′
+    → (n ≡ n′) × (after ≡ after′) × (n ≡ 0 → count ≡ count′)
+text-pinned p q =
+    let (same, one) = agreed p q (told-pinned (λ x. written-pinned)) in
+    (same, settled same (p .refused) (q .refused) (λ z. one z .1), λ z. one z .0)
+
+-- the figure's entry has one answer. What it answers fits the format, as every f64 does (`fits`).
+pub figure-answer-pinned : {under : ℕ → ℕ} {pitch : Float} (r r′ : FigureAnswer)
+    → fits binary64 (figure-out r) ≡ true → fits binary64 (figure-out r′) ≡ true
+    → FigureOf under pitch (figure-number r) (figure-out r) → FigureOf under pitch (figure-number r′) (figure-out r′)
+    → r ≡ r′
+figure-answer-pinned (Millimetres v) (Millimetres v′) f f′ p q =
+    ap Millimetres (one-value binary64 v v′ f f′ (figure-pinned p q .1 refl))
+figure-answer-pinned (Millimetres v) NoFigure f f′ p q = absurd (omega (arith, figure-pinned p q .0))
+figure-answer-pinned NoFigure (Millimetres v) f f′ p q = absurd (omega (arith, figure-pinned p q .0))
+figure-answer-pinned NoFigure NoFigure f f′ p q = refl
+
+-- every text has a byte: its point
+point-there : (n : ℕ) → 1 ≤ length (millimetre-text n)
+point-there n = simp length-append (omega arith)
+
+-- a text that was written has a byte
+pub text-not-empty : {pitch : Float} {under : ℕ → ℕ} {before after : List ℕ}
+    → Told pitch under (λ x. Spelled x before after 0) → ⊥
+text-not-empty t =
+    let w = t .tells in
+    omega (arith, w .text .count-is, point-there (w .n))
+
+-- the text's entry has one answer, and leaves the bytes in one way
+pub text-answer-pinned : {under : ℕ → ℕ} {pitch : Float} {before after after′ : List ℕ} (r r′ : TextAnswer)
+    → TextOf under pitch before (text-number r) (text-count r) after
+    → TextOf under pitch before (text-number r′) (text-count r′) after′ → (r ≡ r′) × (after ≡ after′)
+text-answer-pinned (TextIs count) (TextIs count′) p q =
+    let (same, after, one) = text-pinned p q in (ap TextIs (one refl), after)
+text-answer-pinned (TextIs count) (NotWritten n) p q = absurd (text-not-empty (q .done (sym (text-pinned p q .0))))
+text-answer-pinned (NotWritten n) (TextIs count) p q = absurd (text-not-empty (p .done (text-pinned p q .0)))
+text-answer-pinned (NotWritten n) (NotWritten n′) p q =
+    let (same, after, one) = text-pinned p q in (ap NotWritten same, after)

@@ -22,17 +22,19 @@ use lib.ListN.{length, getD, drop, List·getD-eq-default}
 use borrow.Author.Tests.{ltb-false, leb-true, leb-false, eqb-true, eqb-false, not-true, not-false}
 use borrow.Author.Tests.{le-ltb, le-leb, lt-leb, eq-eqb, ne-eqb}
 use Rattle.rules.specs.declared.Setting.{Setting}
-use Rattle.rules.specs.Limits.{kind-limit, cost-kind-limit, mark, cost-limit, file-limit, bench-side}
+use Rattle.rules.specs.Limits.{kind-limit, cost-kind-limit, mark, cost-limit, file-limit, bench-side, text-bytes}
 use Rattle.rules.specs.Board.{Sides, cell, Bored, Unmarked}
 use Rattle.rules.specs.Measures.{chamfer-kind, Weights}
 use Rattle.rules.specs.BenchFile.{bored-by}
-pub use Rattle.rules.specs.Accepted.{Lent, Slices, Bytes, Costs, Comparable, Somewhere, PictureAccepted, CostAccepted, LaneAccepted, ClearAccepted, FileAccepted}
+use Rattle.rules.specs.Knob.{Good}
+pub use Rattle.rules.specs.Accepted.{Lent, Slices, Bytes, Costs, Comparable, Somewhere, PictureAccepted, CostAccepted, LaneAccepted, ClearAccepted, FileAccepted, TextAccepted}
 use Rattle.rules.specs.Refusals.{Row, row, answer, any}
 use Rattle.rules.specs.Refusals.{bad-sides, bad-kind, bad-weights, bad-buffers, bad-path, bad-slices, bad-byte}
 use Rattle.rules.specs.Refusals.{bad-cost, no-bore, all-marked, bad-ends, bad-setting, bad-changeover, bad-length}
 use Rattle.rules.specs.Refusals.{picture-rows, cost-rows, lane-rows, clear-rows, opening-rows, changeover-rows}
-use Rattle.rules.specs.Refusals.{file-rows}
+use Rattle.rules.specs.Refusals.{file-rows, short-text, figure-rows, text-rows}
 use Rattle.rules.proofs.BenchFile.{bored-length}
+use Rattle.rules.proofs.Knob.{pitch-passes}
 
 -- the row that is tested after k others; past the last stands one with the number 0 that always holds
 abbrev pub row-at : List Row → ℕ → Row
@@ -250,6 +252,16 @@ path-passes w h path e = search reads
 pub path-good : (w h path : ℕ) → w * h ≤ path → bad-path w h path ≡ false
 unfolding bad-path
 path-good w h path l = search makes
+
+-- row 4 does not hold: a text buffer has so many bytes or more
+pub text-bytes-passes : (bytes : ℕ) → short-text bytes ≡ false → text-bytes ≤ bytes
+unfolding short-text
+text-bytes-passes bytes e = search reads
+
+-- of such a text buffer row 4 does not hold
+pub text-bytes-good : (bytes : ℕ) → text-bytes ≤ bytes → short-text bytes ≡ false
+unfolding short-text
+text-bytes-good bytes l = search makes
 
 -- row 4 does not hold: the slices of a clear map are so
 pub slices-passes : (squares clear : ℕ) → bad-slices squares clear ≡ false → Slices squares clear
@@ -525,3 +537,32 @@ module _ (bytes : List ℕ) where
         inside = passed 1 (lit< tt);
         bored = bored-somewhere bench-side bench-side (bored-by bytes) (lit< tt) (bored-length bytes) bore;
       }
+
+module _ (pitch : ℕ) where
+  -- Document 02, E4: "Refusal 8 for the pitch"
+  pub figure-order : numbers (figure-rows pitch) ≡ 8 ∷ []
+  figure-order = refl
+
+  -- its answer names its row
+  pub figure-row-by-row : RowByRow (figure-rows pitch)
+  figure-row-by-row = row-by-row (figure-rows pitch) refl
+
+  -- and 0 tells what the pitch opens to
+  pub figure-accepted : answer (figure-rows pitch) ≡ 0 → (a : ℕ) × Good pitch a
+  figure-accepted e = pitch-passes pitch (figure-row-by-row .none .0 e 0 (lit< tt))
+
+  module _ (bytes : ℕ) where
+    -- "4, before it"
+    pub text-order : numbers (text-rows pitch bytes) ≡ 4 ∷ 8 ∷ []
+    text-order = refl
+
+    -- each answer names its row
+    pub text-row-by-row : RowByRow (text-rows pitch bytes)
+    text-row-by-row = row-by-row (text-rows pitch bytes) refl
+
+    -- and 0 tells the facts of both
+    pub text-accepted : answer (text-rows pitch bytes) ≡ 0 → TextAccepted pitch bytes
+    text-accepted e =
+        let passed = text-row-by-row .none .0 e in
+        let (a, good) = pitch-passes pitch (passed 1 (lit< tt)) in
+        record { bytes-from = text-bytes-passes bytes (passed 0 (lit< tt)); a = a; pitch-good = good }

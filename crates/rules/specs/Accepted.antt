@@ -7,10 +7,11 @@ use mathlib.Core.List.{List}
 use Prim.Native.Nat.{ℕ, _+_, _*_, _%_, _≤_, _<_}
 use lib.ListN.{length, getD}
 use Rattle.rules.specs.declared.Setting.{Setting}
-use Rattle.rules.specs.Limits.{mark, kind-limit, cost-kind-limit, slice-kind-limit, cost-limit, column-limit, value-limit, clear-limit, file-limit, bench-side}
+use Rattle.rules.specs.Limits.{mark, kind-limit, cost-kind-limit, slice-kind-limit, cost-limit, column-limit, value-limit, clear-limit, file-limit, bench-side, text-bytes}
 use Rattle.rules.specs.Board.{Sides, Bored, Unmarked}
 use Rattle.rules.specs.Measures.{Weights, chamfer-kind}
 use Rattle.rules.specs.BenchFile.{bored-by, off-board}
+use Rattle.rules.specs.Knob.{Good}
 use Rattle.rules.specs.Refusals.{scratch-words, bad-setting}
 
 -- what a map call is lent: a picture of W·H words, and no buffer below its minimum
@@ -90,3 +91,9 @@ pub record FileAccepted (bytes : List ℕ) : Type 0 where
   pub length-to : length bytes ≤ file-limit
   pub inside : off-board bytes ≡ false
   pub bored : Somewhere bench-side bench-side (Bored bench-side (bored-by bytes))
+
+-- what a text call has that answers 0, by the pitch's word
+pub record TextAccepted (pitch bytes : ℕ) : Type 0 where
+  pub bytes-from : text-bytes ≤ bytes
+  pub a : ℕ
+  pub pitch-good : Good pitch a

@@ -1,8 +1,10 @@
 -- Answers that are enums, by cases: the number that the documents give each case (0 for accepted), and its values. A
 -- refusal "is its number alone": its values are written 0, or the mark for the next line of a slice, and mean nothing.
 -- Assumes nothing.
+use mathlib.Core.Bool.{false}
 use Prim.Native.Nat.{ℕ}
 use lib.IntN.{ℤ, pos}
+use lib.Ieee.{Float, fin}
 use Rattle.rules.specs.declared.OpeningAnswer.{OpeningAnswer}
 use Rattle.rules.specs.declared.OpeningAnswer.the-variants.{Whole, Refused as NotOpened}
 use Rattle.rules.specs.declared.ChangeoverAnswer.{ChangeoverAnswer}
@@ -13,6 +15,10 @@ use Rattle.rules.specs.declared.SliceAnswer.{SliceAnswer}
 use Rattle.rules.specs.declared.SliceAnswer.the-variants.{Worked, Refused as NotBegun}
 use Rattle.rules.specs.declared.BenchAnswer.{BenchAnswer}
 use Rattle.rules.specs.declared.BenchAnswer.the-variants.{Read, Refused as NotRead}
+use Rattle.rules.specs.declared.FigureAnswer.{FigureAnswer}
+use Rattle.rules.specs.declared.FigureAnswer.the-variants.{Millimetres, Refused as NoFigure}
+use Rattle.rules.specs.declared.TextAnswer.{TextAnswer}
+use Rattle.rules.specs.declared.TextAnswer.the-variants.{Written, Refused as NotWritten}
 use Rattle.rules.specs.Limits.{mark}
 
 -- the opening: "those two whole numbers a (pitch) and b (radius), or refusal 8"
@@ -84,3 +90,21 @@ slice-finished (NotBegun n) = 0
 abbrev pub slice-next : SliceAnswer → ℕ
 slice-next (Worked number finished next) = next
 slice-next (NotBegun n) = mark
+
+-- the figure of document 02, E4: a number of millimetres, or 8
+abbrev pub figure-number : FigureAnswer → ℕ
+figure-number (Millimetres out) = 0
+figure-number NoFigure = 8
+
+abbrev pub figure-out : FigureAnswer → Float
+figure-out (Millimetres out) = out
+figure-out NoFigure = fin false 0 (pos 0)
+
+-- its text: how long it is, or the refusal
+abbrev pub text-number : TextAnswer → ℕ
+text-number (Written count) = 0
+text-number (NotWritten n) = n
+
+abbrev pub text-count : TextAnswer → ℕ
+text-count (Written count) = count
+text-count (NotWritten n) = 0

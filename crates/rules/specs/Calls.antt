@@ -1,7 +1,7 @@
 -- What each entry answers and leaves, over numbers and lists: one `Call` an entry, which the entry's contract and its C
 -- twin's both cite (the words that a C twin answers through pointers have `Out` in `olavinthu` besides). That of the
--- sliced entry stands in `Slices`. The laws of `proofs/Pinned.antt` and `proofs/Slices.antt` say that one input allows
--- one answer and one content of each lent list. Assumes nothing.
+-- sliced entry stands in `Slices`, those of the millimetres in `Millimetres`. The laws of `proofs/Pinned.antt` and
+-- `proofs/Slices.antt` say that one input allows one answer and one content of each lent list. Assumes nothing.
 use mathlib.Core.Path.{_≡_}
 use mathlib.Core.Logic.{_≢_}
 use mathlib.Core.List.{List}

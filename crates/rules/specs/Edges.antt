@@ -1,7 +1,8 @@
--- Document 01's rows at their edges, and those of document 02's E1, as one list of values of one type, and what each says
--- of the rules. Every figure is the documents' own, in digits, and never a name of `Limits`: a limit that is wrong there
--- and in the constants alike shows here. No row tested before the one that a call answers holds of it; a later one may, as
--- 6 does of a board of side 0, which has no bore. `proofs/Edges.antt` proves the claim `Met` of the list. Assumes nothing.
+-- Document 01's rows at their edges, and those of document 02's E1 and E4, as one list of values of one type, and what
+-- each says of the rules. Every limit is the documents' own, in digits, and never a name of `Limits`: one that is wrong
+-- there and in the constants alike shows here; roots and words are worked out by the documents' formulas. No row tested
+-- before the one that a call answers holds of it; a later one may, as 6 does of a board of side 0, which has no bore.
+-- `proofs/Edges.antt` proves the claim `Met` of the list. Assumes nothing.
 use mathlib.Core.Path.{_≡_}
 use mathlib.Core.Bool.{true, false}
 use mathlib.Core.List.{List, [], _∷_, _++_}
@@ -13,8 +14,11 @@ use Rattle.rules.specs.declared.Setting.{Setting}
 use Rattle.rules.specs.Limits.{mark}
 use Rattle.rules.specs.Board.{cell}
 use Rattle.rules.specs.Refusals.{Row, answer, scratch-words, picture-rows, cost-rows, lane-rows}
-use Rattle.rules.specs.Refusals.{clear-rows, opening-rows, changeover-rows, file-rows, slice-rows}
+use Rattle.rules.specs.Refusals.{clear-rows, opening-rows, changeover-rows, file-rows, slice-rows, figure-rows}
+use Rattle.rules.specs.Refusals.{text-rows}
+use Rattle.rules.specs.Knob.{Good}
 use Rattle.rules.specs.Calls.{OpeningCall}
+use Rattle.rules.specs.Millimetres.{word-32, Root, figure-word, centre-under}
 use Rattle.rules.specs.Slices.{column-rows, row-rows, line-number}
 
 pub data Edge : Type 0 where
@@ -26,6 +30,12 @@ pub data Edge : Type 0 where
   opening : Float → Float → ℕ → ℕ → Edge
   -- pitch and radius, refused by the opening and by a clear map of one word
   no-opening : Float → Float → Edge
+  -- a pitch by itself; the whole number that it opens to
+  good-pitch : Float → ℕ → Edge
+  -- a pitch, refused by the figure and by a text of 20 bytes
+  no-pitch : Float → Edge
+  -- what stands under the root, and the root
+  whole-root : ℕ → ℕ → Edge
 
 -- a setting of two values
 abbrev pub setting : Float → Float → Setting
@@ -38,6 +48,9 @@ EdgeHolds (call rows n) = answer rows ≡ n
 EdgeHolds (opening pitch radius a b) = OpeningCall (setting pitch radius) 0 a b
 EdgeHolds (no-opening pitch radius) =
     (answer (opening-rows (setting pitch radius)) ≡ 8) × (answer (clear-rows (setting pitch radius) 1 1) ≡ 8)
+EdgeHolds (good-pitch p a) = Good (word-32 p) a × (answer (figure-rows (word-32 p)) ≡ 0)
+EdgeHolds (no-pitch p) = (answer (figure-rows (word-32 p)) ≡ 8) × (answer (text-rows (word-32 p) 20) ≡ 8)
+EdgeHolds (whole-root x n) = Root x n
 
 -- the one claim: every edge of a list holds
 abbrev pub Met : List Edge → Type 0
@@ -316,6 +329,53 @@ line-edges =
     ∷ number (line-of 4) 0
     ∷ []
 
+-- 8 of a pitch by itself: k of 1, 96 and 4,096; 4,097 and 1.5 over 64, both zeros, −1.0, the infinities and NaN
+abbrev pub pitch-edges : List Edge
+pitch-edges =
+    good-pitch (fin false 1 (negsuc 5)) 1
+    ∷ good-pitch (fin false 3 (negsuc 0)) 96
+    ∷ good-pitch (fin false 1 (pos 6)) 4_096
+    ∷ no-pitch (fin false 4097 (negsuc 5))
+    ∷ no-pitch (fin false 3 (negsuc 6))
+    ∷ no-pitch (fin false 0 (pos 0))
+    ∷ no-pitch (fin true 0 (pos 0))
+    ∷ no-pitch (fin true 1 (pos 0))
+    ∷ no-pitch (inf false)
+    ∷ no-pitch (inf true)
+    ∷ no-pitch nan
+    ∷ []
+
+-- 4: text buffers of 0, 19, 20 and 21 bytes, with pitch 64.0
+abbrev pub text-of : ℕ → List Row
+text-of bytes = text-rows (word-32 (fin false 1 (pos 6))) bytes
+
+abbrev pub text-edges : List Edge
+text-edges =
+    call (text-of 0) 4
+    ∷ call (text-of 19) 4
+    ∷ call (text-of 20) 0
+    ∷ call (text-of 21) 0
+    ∷ []
+
+-- "N the greatest whole number such that N² ≤ 16·d·a²": d = 2 and pitch 1.0, whose a is 64; two squares, and one less
+-- than a square; 16 less than that of 256, and that square; the least and the greatest of all. The words of N = 1, 255,
+-- 256 and 362, which are 1/256, 255/256, 1.0 and 1.4140625.
+abbrev pub root-edges : List Edge
+root-edges =
+    whole-root (centre-under 2 64) 362
+    ∷ whole-root (centre-under 9 64) 768
+    ∷ whole-root (centre-under 1 1) 4
+    ∷ whole-root (centre-under 3 1) 6
+    ∷ whole-root (centre-under 4_095 1) 255
+    ∷ whole-root (centre-under 4_096 1) 256
+    ∷ whole-root (centre-under 0 4_096) 0
+    ∷ whole-root (centre-under 4_294_967_295 4_096) 1_073_741_823
+    ∷ number (figure-word 1 0) 4_571_153_621_781_053_440
+    ∷ number (figure-word 255 7) 4_607_147_234_427_928_576
+    ∷ number (figure-word 256 8) 4_607_182_418_800_017_408
+    ∷ number (figure-word 362 8) 4_609_047_190_520_725_504
+    ∷ []
+
 -- "the first row that holds": two rows or more hold, and the answer is the first in the entry's order. Of each entry
 -- every two rows are here that it tests one after the other and that can both hold (2 and 3 cannot).
 abbrev pub order-edges : List Edge
@@ -339,6 +399,7 @@ order-edges =
     ∷ call (slice-rows 0 1 3 0 0 0 0 2) 1
     ∷ call (slice-rows 1 1 3 0 1 0 1 5) 2
     ∷ call (slice-rows 1 1 0 3 1 0 1 5) 4
+    ∷ call (text-rows (word-32 nan) 19) 4
     ∷ []
 
 -- all of them
@@ -350,4 +411,4 @@ edges =
     ++ lent-edges lent-map ++ lent-edges lent-costs ++ lent-edges (lent-lane 6) ++ lent-edges lent-slice
     ++ path-edges ++ clear-edges
     ++ content-edges ++ end-edges ++ knob-edges ++ changeover-edges ++ length-edges ++ record-edges
-    ++ start-edges ++ column-edges ++ row-edges ++ line-edges ++ order-edges
+    ++ start-edges ++ column-edges ++ row-edges ++ line-edges ++ pitch-edges ++ text-edges ++ root-edges ++ order-edges

@@ -1,12 +1,14 @@
--- Whole calls in figures, as one list of values of one type. Each says the very record of `Calls` or `Slices` that its
+-- Whole calls in figures, as one list of values of one type. Each says the very record of `Calls` and its like that its
 -- entry's contract cites, and where an entry answers an enum, through `Answers`. The samples and the edges stop below: they
 -- speak of words, sites, lanes and rows. Here it shows which of them stands where in a call, and what the call leaves: a
--- rule that takes one for another fails. `proofs/Figures.antt` proves the claim `AllHold` of the list. Assumes nothing.
+-- rule that takes one for another fails. A `Figure` is such a call; the figure of document 02, E4, is an f64, and the calls
+-- that tell one are `millimetres-call` and `text-call`. `proofs/Figures.antt` proves the claim `AllHold` of the list.
+-- Assumes nothing.
 use mathlib.Core.Bool.{false}
 use mathlib.Core.List.{List, [], _∷_, _++_}
 use Prim.Native.Nat.{ℕ, _+_}
 use lib.IntN.{pos, negsuc}
-use lib.Ieee.{nan, fin}
+use lib.Ieee.{Float, nan, fin}
 use lib.ListN.{replicate}
 use Rattle.rules.specs.declared.Setting.{Setting}
 use Rattle.rules.specs.declared.OpeningAnswer.{OpeningAnswer}
@@ -19,14 +21,20 @@ use Rattle.rules.specs.declared.SliceAnswer.{SliceAnswer}
 use Rattle.rules.specs.declared.SliceAnswer.the-variants.{Worked, Refused as NotBegun}
 use Rattle.rules.specs.declared.BenchAnswer.{BenchAnswer}
 use Rattle.rules.specs.declared.BenchAnswer.the-variants.{Read, Refused as NotRead}
+use Rattle.rules.specs.declared.FigureAnswer.{FigureAnswer}
+use Rattle.rules.specs.declared.FigureAnswer.the-variants.{Millimetres, Refused as NoFigure}
+use Rattle.rules.specs.declared.TextAnswer.{TextAnswer}
+use Rattle.rules.specs.declared.TextAnswer.the-variants.{Written, Refused as NotWritten}
 use Rattle.rules.specs.BenchFile.{text}
 use Rattle.rules.specs.Answers.{opening-number, opening-a, opening-b, changeover-number, changeover-at}
 use Rattle.rules.specs.Answers.{lane-number, lane-width, lane-cells}
 use Rattle.rules.specs.Answers.{slice-start, slice-number, slice-finished, slice-next}
 use Rattle.rules.specs.Answers.{bench-number, bench-sites, bench-farthest, bench-cell}
+use Rattle.rules.specs.Answers.{figure-number, figure-out, text-number, text-count}
 use Rattle.rules.specs.Calls.{Buffers, buffers, PictureCall, CostCall, LaneCall, OpeningCall, ClearCall}
 use Rattle.rules.specs.Calls.{ChangeoverCall, BenchCall, BenchPrints}
 use Rattle.rules.specs.Slices.{SliceCall, Chain}
+use Rattle.rules.specs.Millimetres.{FigureCall, TextCall}
 use Rattle.rules.specs.Edges.{setting}
 
 -- a call of a chain: its budget; the lines finished, the next line and the buffers after
@@ -67,6 +75,10 @@ pub data Figure : Type 0 where
   changeover-call : ℕ → ℕ → ℕ → ℕ → ChangeoverAnswer → Figure
   -- the bytes of the file; the answer, and the text that is printed
   bench-call : List ℕ → BenchAnswer → List ℕ → Figure
+  -- d, the pitch; the answer
+  millimetres-call : ℕ → Float → FigureAnswer → Figure
+  -- d, the pitch, the bytes; the answer, the bytes after
+  text-call : ℕ → Float → List ℕ → TextAnswer → List ℕ → Figure
 
 -- what a figure says of the rules
 abbrev pub FigureHolds : Figure → Type 0
@@ -83,6 +95,8 @@ FigureHolds (clear-call s squares clear n clear′) = ClearCall s squares clear 
 FigureHolds (changeover-call i u a b r) = ChangeoverCall i u a b (changeover-number r) (changeover-at r)
 FigureHolds (bench-call bytes r output) =
     BenchCall bytes (bench-number r) (bench-sites r) (bench-farthest r) (bench-cell r) × BenchPrints bytes output
+FigureHolds (millimetres-call d pitch r) = FigureCall d pitch (figure-number r) (figure-out r)
+FigureHolds (text-call d pitch before r after) = TextCall d pitch before (text-number r) (text-count r) after
 
 -- the one claim: every figure of a list holds
 abbrev pub AllHold : List Figure → Type 0
@@ -133,6 +147,34 @@ accepted =
     ∷ changeover-call 0 1 17_000_000 0 (At (negsuc 8_499_999))
     -- the one record (0, 0): sites 1, farthest 7938, cell 4095 (`sample-text` has the bytes of the text)
     ∷ bench-call (0 ∷ 0 ∷ 0 ∷ 0 ∷ []) (Read 1 7938 4095) (text 0 1 7938 4095)
+    ∷ []
+
+-- the texts 1.41406250, 0.00000000, 0.03125000 and 4194303.99609375
+abbrev pub root-of-two : List ℕ
+root-of-two = 49 ∷ 46 ∷ 52 ∷ 49 ∷ 52 ∷ 48 ∷ 54 ∷ 50 ∷ 53 ∷ 48 ∷ []
+
+abbrev pub nothing-text : List ℕ
+nothing-text = 48 ∷ 46 ∷ 48 ∷ 48 ∷ 48 ∷ 48 ∷ 48 ∷ 48 ∷ 48 ∷ 48 ∷ []
+
+abbrev pub two-fine : List ℕ
+two-fine = 48 ∷ 46 ∷ 48 ∷ 51 ∷ 49 ∷ 50 ∷ 53 ∷ 48 ∷ 48 ∷ 48 ∷ []
+
+abbrev pub farthest-text : List ℕ
+farthest-text =
+    52 ∷ 49 ∷ 57 ∷ 52 ∷ 51 ∷ 48 ∷ 51 ∷ 46 ∷ 57 ∷ 57 ∷ 54 ∷ 48 ∷ 57 ∷ 51 ∷ 55 ∷ 53 ∷ []
+
+-- millimetres: d = 2 and pitch 1.0, whose N is 362; d = 0, which is the positive zero; d = 1 and 4 with the least pitch,
+-- one and two cells of 1/64 mm; the greatest d with the greatest pitch. `fin s m e` is m·2^e.
+abbrev pub in-millimetres : List Figure
+in-millimetres =
+    millimetres-call 2 (fin false 1 (pos 0)) (Millimetres (fin false 181 (negsuc 6)))
+    ∷ millimetres-call 0 (fin false 1 (pos 6)) (Millimetres (fin false 0 (pos 0)))
+    ∷ millimetres-call 1 (fin false 1 (negsuc 5)) (Millimetres (fin false 1 (negsuc 5)))
+    ∷ millimetres-call 4_294_967_295 (fin false 1 (pos 6)) (Millimetres (fin false 1_073_741_823 (negsuc 7)))
+    ∷ text-call 2 (fin false 1 (pos 0)) (replicate 20 8) (Written 10) (root-of-two ++ replicate 10 8)
+    ∷ text-call 0 (fin false 1 (pos 6)) (replicate 21 8) (Written 10) (nothing-text ++ replicate 11 8)
+    ∷ text-call 4 (fin false 1 (negsuc 5)) (replicate 20 8) (Written 10) (two-fine ++ replicate 10 8)
+    ∷ text-call 4_294_967_295 (fin false 1 (pos 6)) (replicate 20 8) (Written 16) (farthest-text ++ replicate 4 8)
     ∷ []
 
 -- buffers for a board of n cells and `tail` scratch words besides, each a word longer than it needs to be, by the scratch
@@ -195,8 +237,11 @@ refused =
     ∷ clear-call bad (16 ∷ 15 ∷ []) (8 ∷ 9 ∷ []) 8 (8 ∷ 9 ∷ [])
     ∷ changeover-call 1 1 0 0 NoChangeover
     ∷ bench-call [] (NotRead 6) (text 6 0 0 0)
+    ∷ millimetres-call 2 nan NoFigure
+    ∷ text-call 2 nan (replicate 20 8) (NotWritten 8) (replicate 20 8)
+    ∷ text-call 2 nan (replicate 19 8) (NotWritten 4) (replicate 19 8)
     ∷ []
 
 -- all of them
 abbrev pub figures : List Figure
-figures = accepted ++ begun ++ refused
+figures = accepted ++ in-millimetres ++ begun ++ refused

@@ -14,6 +14,7 @@ pub mod BenchFile
 pub mod Answers
 pub mod Calls
 pub mod Slices
+pub mod Millimetres
 pub mod Samples
 pub mod Edges
 pub mod Figures

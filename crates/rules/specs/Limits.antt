@@ -57,6 +57,10 @@ bench-side = 64
 abbrev pub file-limit : ℕ
 file-limit = 16_384
 
+-- Document 02, E4: "4 .. if the buffer is under 20 bytes"
+abbrev pub text-bytes : ℕ
+text-bytes = 20
+
 -- What the engine along a line takes as a value. No sentence of 01 has it: it is ours, far above every true word.
 abbrev pub line-limit : ℕ
 line-limit = 2 ^ 50
@@ -81,4 +85,5 @@ pub record Stated (l : LimitTable) : Type 0 where
   pub clear-is : l .clear ≡ clear-limit
   pub bench-side-is : l .«bench_side» ≡ bench-side
   pub file-is : l .file ≡ file-limit
+  pub text-bytes-is : l .«text_bytes» ≡ text-bytes
   pub line-is : l .line ≡ line-limit

@@ -7,7 +7,7 @@ use Prim.Native.Nat.{ℕ, zero, suc, _+_, _*_, _%_, _^_}
 use lib.Dec.{leb, ltb, eqb}
 use lib.ListN.{length}
 use Rattle.rules.specs.declared.Setting.{Setting}
-use Rattle.rules.specs.Limits.{side-limit, mark, kind-limit, cost-kind-limit, slice-kind-limit, cost-limit, weight-limit, column-limit, value-limit, knob-limit, clear-limit, file-limit}
+use Rattle.rules.specs.Limits.{side-limit, mark, kind-limit, cost-kind-limit, slice-kind-limit, cost-limit, weight-limit, column-limit, value-limit, knob-limit, clear-limit, file-limit, text-bytes}
 use Rattle.rules.specs.Measures.{chamfer-kind}
 use Rattle.rules.specs.Knob.{pitch-word, radius-word, good-word}
 use Rattle.rules.specs.BenchFile.{bored-by, off-board}
@@ -106,6 +106,14 @@ bad-line w h line = ltb (w + h) line
 unfoldable pub bad-word : ℕ → ℕ → Bool
 bad-word h word = not (ltb word h || eqb word mark)
 
+-- 4, of document 02, E4: "if the buffer is under 20 bytes"
+unfoldable pub short-text : ℕ → Bool
+short-text bytes = ltb bytes text-bytes
+
+-- 8 of a pitch by itself, by its word. Document 02, E4: "Refusal 8 for the pitch"
+unfoldable pub bad-pitch : ℕ → Bool
+bad-pitch word = not (good-value word)
+
 -- "Pictures test 1 to 6"
 abbrev pub picture-rows : ℕ → ℕ → ℕ → ℕ → ℕ → List ℕ → ℕ → ℕ → ℕ → List Row
 picture-rows w h kind d1 d2 picture distances sites scratch =
@@ -163,3 +171,10 @@ slice-rows w h kind line picture distances sites scratch =
     ∷ row 4 (bad-buffers w h picture distances sites scratch)
     ∷ row 12 (bad-line w h line)
     ∷ []
+
+-- Document 02, E4: "Refusal 8 for the pitch; 4, before it, if the buffer is under 20 bytes."
+abbrev pub figure-rows : ℕ → List Row
+figure-rows pitch = row 8 (bad-pitch pitch) ∷ []
+
+abbrev pub text-rows : ℕ → ℕ → List Row
+text-rows pitch bytes = row 4 (short-text bytes) ∷ row 8 (bad-pitch pitch) ∷ []

@@ -29,6 +29,8 @@ pub const CLEAR_LIMIT: usize = 4_194_304;
 pub const BENCH_SIDE: u32 = 64;
 // "over 16,384 bytes"
 pub const FILE_LIMIT: usize = 16_384;
+// Document 02, E4: "if the buffer is under 20 bytes"
+pub const TEXT_BYTES: usize = 20;
 // The greatest value that the engine along a line takes: ours, far above every true word.
 pub const LINE_LIMIT: u64 = 1_125_899_906_842_624;
 
@@ -47,6 +49,7 @@ pub struct LimitTable {
     pub clear: usize,
     pub bench_side: u32,
     pub file: usize,
+    pub text_bytes: usize,
     pub line: u64,
 }
 
@@ -67,6 +70,7 @@ pub fn limits() -> LimitTable
         clear: CLEAR_LIMIT,
         bench_side: BENCH_SIDE,
         file: FILE_LIMIT,
+        text_bytes: TEXT_BYTES,
         line: LINE_LIMIT,
     }
 }
@@ -127,5 +131,17 @@ pub enum SliceAnswer {
         finished: u32,
         next: u32,
     },
+    Refused(u32),
+}
+
+// A distance in millimetres, or refusal 8.
+pub enum FigureAnswer {
+    Millimetres(f64),
+    Refused,
+}
+
+// How long the text of a distance in millimetres is, or the refusal's number.
+pub enum TextAnswer {
+    Written(u32),
     Refused(u32),
 }

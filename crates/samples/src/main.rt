@@ -14,6 +14,8 @@ use knobs::show_clear;
 use knobs::show_lengths;
 use knobs::show_value;
 use lane_boards::show_lane;
+use screen::show_millimetres;
+use screen::show_short_text;
 
 mod boards;
 mod changeovers;
@@ -21,6 +23,7 @@ mod cost_boards;
 mod files;
 mod knobs;
 mod lane_boards;
+mod screen;
 mod text;
 
 // The cell that the paper names, of boards with a few bores.
@@ -81,6 +84,21 @@ fn columns() {
     show_changeover(0, 1, 0, 17_000_001);
 }
 
+// Millimetres: document 02's own, nothing, the least pitch, the greatest of all, and what is refused.
+fn millimetres() {
+    show_millimetres(b"d = 2, pitch 1.0", 2, 1.0, 1.4140625);
+    show_millimetres(b"d = 0, pitch 64.0", 0, 64.0, 0.0);
+    show_millimetres(b"d = 1, pitch 0.015625", 1, 0.015625, 0.015625);
+    show_millimetres(
+        b"d = 4294967295, pitch 64.0",
+        4_294_967_295,
+        64.0,
+        4194303.99609375,
+    );
+    show_millimetres(b"d = 2, pitch 0.01", 2, 0.01, 0.0);
+    show_short_text();
+}
+
 // Costs of five cells in a row, the dearest that is taken, and one that is too dear.
 fn lines_of_costs() {
     show_costs(b"kind 0, costs 9 0 9 9 9", 0, &[9, 0, 9, 9, 9]);
@@ -117,6 +135,7 @@ fn main() {
     values();
     show_clear();
     show_lengths();
+    millimetres();
     lines_of_costs();
     lanes();
     bench_files();

@@ -1,6 +1,6 @@
 /*
- * A small board from end to end: its map, the same map in slices, its clear map, its widest lane. Then the longest board
- * that is accepted, and one that is refused.
+ * A small board from end to end: its map, the same map in slices, its clear map, a corner's distance in millimetres, its
+ * widest lane. Then the longest board that is accepted, and one that is refused.
  *
  * After `rt staticlib olavinthu`, from the repository's root:
  *
@@ -108,6 +108,23 @@ static int show_clear(void)
     return 1;
 }
 
+/* The corner's distance in millimetres, of a pitch of 8 mm, as a number and as a text: whole 1/256 mm, rounded down. */
+static int show_millimetres(void)
+{
+    static const char expected[] = "11.31250000";
+    const float pitch = 8.0f;
+    uint8_t text[OLV_TEXT_BYTES];
+    uint32_t length;
+    double millimetres;
+
+    if (olv_millimetres(distances[0], pitch, &millimetres) != OLV_ACCEPTED ||
+        olv_millimetres_text(distances[0], pitch, text, COUNT(text), &length) != OLV_ACCEPTED) {
+        return 0;
+    }
+    printf("\nfrom a corner to the bore: %.*s mm\n", (int)length, (const char *)text);
+    return millimetres == 11.3125 && length == strlen(expected) && memcmp(text, expected, length) == 0;
+}
+
 /* The widest lane from the first cell to the last, which goes around the bore: width 1, cells 0 1 2 5 8. */
 static int show_lane(void)
 {
@@ -166,7 +183,8 @@ static int show_refusal(void)
 
 int main(void)
 {
-    if (show_map() && show_slices() && show_clear() && show_lane() && show_longest() && show_refusal()) {
+    if (show_map() && show_slices() && show_clear() && show_millimetres() && show_lane() && show_longest() &&
+        show_refusal()) {
         return 0;
     }
     fputs("board: an answer is not as it should be\n", stderr);

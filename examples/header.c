@@ -32,11 +32,13 @@ static uint32_t sites[ROOM];
 static uint32_t scratch[2 * ROOM];
 static uint32_t path[ROOM];
 static uint8_t clear[ROOM];
+static uint8_t text[OLV_TEXT_BYTES];
 
 /* The out-words of a call. */
 static uint32_t first;
 static uint32_t second;
 static int32_t place;
+static double millimetres;
 
 /* Ends the program where what is found is not what is expected; `asked` says of what. */
 static void expect(const char *asked, uint32_t found, uint32_t expected)
@@ -257,6 +259,21 @@ static void knob(void)
     SHOW(OLV_CLEAR_LIMIT);
 }
 
+/* Millimetres at a pitch that is good, past the limit, and bad; and a text in as few bytes as it may have, and in fewer. */
+static void screen(void)
+{
+    const float past = (float)(OLV_KNOB_LIMIT + 1) / 64;
+
+    expect("millimetres", olv_millimetres(2, 1.0f, &millimetres), OLV_ACCEPTED);
+    expect("the number of d = 2, in 1/256 mm", (uint32_t)(millimetres * 256), 362);
+    expect("millimetres at a pitch past OLV_KNOB_LIMIT", olv_millimetres(2, past, &millimetres), OLV_REFUSED_SETTING);
+    expect("OLV_TEXT_BYTES", olv_millimetres_text(2, 1.0f, text, OLV_TEXT_BYTES, &first), OLV_ACCEPTED);
+    expect("the text of d = 2", memcmp(text, "1.41406250", 10) == 0 ? first : 0, 10);
+    expect("one byte fewer", olv_millimetres_text(2, 1.0f, text, OLV_TEXT_BYTES - 1, &first), OLV_REFUSED_LENGTH);
+    expect("a text at a pitch of 0", olv_millimetres_text(2, 0.0f, text, OLV_TEXT_BYTES, &first), OLV_REFUSED_SETTING);
+    SHOW(OLV_TEXT_BYTES);
+}
+
 /* The mark: a cost that is no feature, what kind 3 names, a column without a bore, and the path past a lane. */
 static void mark(void)
 {
@@ -328,6 +345,13 @@ static uint32_t largest_lane(void) { return LANE(OLV_SIDE_LIMIT, OLV_SIDE_LIMIT,
 static uint32_t largest_opening(void) { return open_in(OLV_KNOB_LIMIT, OLV_KNOB_LIMIT); }
 static uint32_t largest_changeover(void) { return olv_changeover(0, 1, OLV_VALUE_LIMIT, 0, &place); }
 
+static uint32_t largest_figure(void) { return olv_millimetres(UINT32_MAX, 64.0f, &millimetres); }
+
+static uint32_t largest_text(void)
+{
+    return olv_millimetres_text(UINT32_MAX, 64.0f, text, OLV_TEXT_BYTES, &first);
+}
+
 static uint32_t largest_clear(void)
 {
     const olv_setting good = {1.0f, 1.0f};
@@ -393,6 +417,8 @@ static void stacks(void)
         {"olv_slice", largest_slice, 0, NULL},     {"olv_cost_map", largest_costs, 0, NULL},
         {"olv_lane", largest_lane, 0, NULL},       {"olv_open", largest_opening, 0, NULL},
         {"olv_clear", largest_clear, 0, NULL},     {"olv_changeover", largest_changeover, 0, NULL},
+        {"olv_millimetres", largest_figure, 0, NULL},
+        {"olv_millimetres_text", largest_text, 0, NULL},
     };
 
     one_bore();
@@ -409,6 +435,7 @@ int main(void)
     costs_and_weights();
     changeovers();
     knob();
+    screen();
     mark();
     scratch_counts();
     sides();

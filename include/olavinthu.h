@@ -1,6 +1,7 @@
 /*
  * Olavinthu: exact distance transforms (Euclid, Manhattan, chessboard, chamfer) with the nearest site of each cell, in
- * one go or in slices, cost maps, clear maps and widest lanes of chest boards, from the proved archive libolavinthu.a.
+ * one go or in slices, cost maps, clear maps and widest lanes of chest boards, and distances in millimetres, from the
+ * proved archive libolavinthu.a.
  *
  * A board has w columns and h rows, each from 1 to OLV_SIDE_LIMIT. Cell (x, y), x to the right and y downward, has the
  * number y * w + x. A picture has one byte a cell, 1 bored and 0 sound.
@@ -70,6 +71,9 @@
 
 /* The fewest words that a map's scratch must have, as a size_t. */
 #define OLV_SCRATCH_COUNT(w, h) ((size_t)(w) * (h) + 2 * (size_t)(w) + 2 * (size_t)(h))
+
+/* The fewest bytes that a text of millimetres must be lent. */
+#define OLV_TEXT_BYTES UINT32_C(20)
 
 /* The most stack that a call takes below its caller's frame, in bytes. Measured with room to spare, and not proved. */
 #define OLV_STACK_BYTES 32768
@@ -214,6 +218,33 @@ uint32_t olv_open(olv_setting setting, uint32_t *a, uint32_t *b);
 uint32_t olv_clear(olv_setting setting,
                    const uint32_t *squares, size_t squares_count,
                    uint8_t *clear, size_t clear_count);
+
+/*
+ * Millimetres for the screen: the distance from centre to centre whose square, in cells, is d. It is rounded down to a
+ * whole number N of 1/256 mm: the greatest N with N^2 <= 16 * d * a^2, where a is the pitch as olv_open opens it.
+ *
+ *   d      any number, as OLV_EUCLID of olv_map gives it
+ *   pitch  as in olv_setting
+ *   out    becomes N / 256, exactly; for 0 the positive zero
+ *
+ * Refusals: 8 (the pitch is bad).
+ */
+uint32_t olv_millimetres(uint32_t d, float pitch, double *out);
+
+/*
+ * The same number as a text: whole digits with no needless zero in front, a point, and eight digits, as 1.41406250 for
+ * d = 2 and a pitch of 1 mm. The digits are exact.
+ *
+ *   d, pitch  as for olv_millimetres
+ *   text      at least OLV_TEXT_BYTES bytes; the first *length become the text. No byte 0 is put behind it: what stands
+ *             there stays
+ *   length    becomes the length of the text, from 10 to 16
+ *
+ * Refusals: 4 (text_count below OLV_TEXT_BYTES), 8 (the pitch is bad).
+ */
+uint32_t olv_millimetres_text(uint32_t d, float pitch,
+                              uint8_t *text, size_t text_count,
+                              uint32_t *length);
 
 /*
  * The best lane between two cells. A lane goes from a cell to a cell that shares an edge with it; its width is the least

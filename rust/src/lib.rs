@@ -1,5 +1,5 @@
-//! Exact distance maps with nearest sites, in one go or in slices, and widest lanes, from the proved
-//! archive `libolavinthu.a`, safe to call.
+//! Exact distance maps with nearest sites, in one go or in slices, widest lanes, and distances in
+//! millimetres, from the proved archive `libolavinthu.a`, safe to call.
 //!
 //! Every function takes lists of any length and numbers of any size; the archive tests them all.
 //! What it does not accept comes back as a [`Refusal`], and then no lent word has changed. Words
@@ -25,12 +25,14 @@
 //! ```
 
 mod limits;
+mod millimetres;
 mod on_board;
 pub mod raw;
 mod refusal;
 mod slices;
 
 pub use limits::*;
+pub use millimetres::{millimetres, millimetres_text};
 pub use refusal::Refusal;
 pub use slices::{slice, Slice, SliceKind};
 

@@ -15,3 +15,5 @@ pub const VALUE_LIMIT: u32 = 17_000_000;
 pub const KNOB_LIMIT: u32 = 4_096;
 /// The most cells of a clear map; the fewest are 1.
 pub const CLEAR_LIMIT: usize = 4_194_304;
+/// The fewest bytes that a text of millimetres may be lent.
+pub const TEXT_BYTES: usize = 20;

@@ -43,6 +43,14 @@ extern "C" {
         clear: *mut u8, clear_count: usize,
     ) -> u32;
 
+    pub fn olv_millimetres(d: u32, pitch: f32, out: *mut f64) -> u32;
+
+    pub fn olv_millimetres_text(
+        d: u32, pitch: f32,
+        text: *mut u8, text_count: usize,
+        length: *mut u32,
+    ) -> u32;
+
     pub fn olv_lane(
         width: u32, height: u32,
         picture: *const u8, picture_count: usize,

@@ -23,6 +23,7 @@ fn limits_are_those_of_the_header() {
     assert_eq!(olavinthu::VALUE_LIMIT, header("VALUE_LIMIT"));
     assert_eq!(olavinthu::KNOB_LIMIT, header("KNOB_LIMIT"));
     assert_eq!(olavinthu::CLEAR_LIMIT, header("CLEAR_LIMIT") as usize);
+    assert_eq!(olavinthu::TEXT_BYTES, header("TEXT_BYTES") as usize);
 }
 
 #[test]

@@ -1,6 +1,7 @@
-//! The picture at the head of README.md: every word and every star is the archive's answer.
+//! The picture at the head of README.md, and its millimetres: every word, every star and every digit is
+//! the archive's answer.
 
-use olavinthu::{lane, Board, Buffers, Lane, Refusal};
+use olavinthu::{lane, millimetres_text, Board, Buffers, Lane, Refusal, TEXT_BYTES};
 
 const README: &str = include_str!("../../README.md");
 
@@ -30,6 +31,18 @@ fn the_picture_of_the_readme_is_what_the_archive_answers() -> Result<(), Refusal
         let words: String = cells.clone().map(|cell| format!("{:>3}", distances[cell])).collect();
         let lane: String = cells.map(drawn).collect();
         let line = format!("   {words}     {lane}");
+        assert!(README.lines().any(|printed| printed == line), "README.md lacks\n{line}");
+    }
+    Ok(())
+}
+
+#[test]
+fn the_millimetres_of_the_readme_are_what_the_archive_answers() -> Result<(), Refusal> {
+    for (d, pitch) in [(1, 8.0), (2, 8.0), (169, 0.5), (0, 8.0)] {
+        let mut text = [0; TEXT_BYTES];
+        let length = millimetres_text(d, pitch, &mut text)?;
+        let digits = String::from_utf8_lossy(&text[..length]);
+        let line = format!("    d = {d:<4} pitch {pitch:<3} mm {digits:>15} mm");
         assert!(README.lines().any(|printed| printed == line), "README.md lacks\n{line}");
     }
     Ok(())

@@ -1,19 +1,27 @@
--- What a call leaves in the words that its values go to, the lane's and the slice's answer by its cases, and that each C
--- function which answers through pointers leaves one value there. Assumes nothing.
+-- What a call leaves in the words that its values go to, the answers by their cases, and that each C function which
+-- answers through pointers leaves one value there. Assumes nothing.
 use mathlib.Core.Path.{_≡_, refl, sym, _∙_, subst}
 use mathlib.Core.Logic.{by-cases}
 use Prim.Native.Nat.{ℕ}
 use native.Mathlib.Decide.{ℕ-discrete}
+use mathlib.Core.Bool.{true}
 use mathlib.Core.List.{List}
 use lib.IntN.{ℤ}
+use lib.Ieee.{Float, binary64, fits}
 use Rattle.rules.specs.declared.Setting.{Setting}
 use Rattle.rules.specs.declared.LaneAnswer.{LaneAnswer}
 use Rattle.rules.specs.declared.SliceAnswer.{SliceAnswer}
+use Rattle.rules.specs.declared.FigureAnswer.{FigureAnswer}
+use Rattle.rules.specs.declared.TextAnswer.{TextAnswer}
 use Rattle.rules.specs.Answers.{lane-number, lane-width, lane-cells}
+use Rattle.rules.specs.Answers.{figure-number, figure-out, text-number, text-count}
 use Rattle.rules.specs.Answers.{slice-start, slice-number, slice-finished, slice-next}
 use Rattle.rules.specs.Calls.{Buffers, LaneAfter, ChangeoverCall, OpeningCall, LaneCall}
 use Rattle.rules.specs.Slices.{SliceCall}
+use Rattle.rules.specs.Millimetres.{Spelled, Told, FigureOf, TextOf}
+use Rattle.rules.proofs.FloatWord.{one-value}
 use Rattle.rules.proofs.Pinned.{cells-not-zero, changeover-pinned, opening-pinned, lane-pinned}
+use Rattle.rules.proofs.Pinned.{text-not-empty, figure-pinned, text-pinned}
 use Rattle.rules.proofs.Slices.{slice-pinned}
 use Rattle.olavinthu.specs.Out.{Out, SliceTold}
 
@@ -46,6 +54,22 @@ slice-as {w} {h} {kind} {line} {budget} {picture} {before} {after} e c =
     subst (λ r. SliceCall w h kind line budget picture before (slice-start r) (slice-number r) (slice-finished r)
     (slice-next r) after) e c
 
+-- no accepted text has no bytes
+pub no-text : {pitch : Float} {under : ℕ → ℕ} {before after : List ℕ} {number : ℕ}
+    → number ≡ 0 → Told pitch under (λ x. Spelled x before after 0) → ⊥
+no-text _ t = text-not-empty t
+
+-- what is said of a figure's or a text's answer is said of the case that it is
+pub figure-as : {under : ℕ → ℕ} {pitch : Float} {r case : FigureAnswer} → r ≡ case
+    → FigureOf under pitch (figure-number r) (figure-out r) → FigureOf under pitch (figure-number case) (figure-out case)
+figure-as {under} {pitch} e c = subst (λ r. FigureOf under pitch (figure-number r) (figure-out r)) e c
+
+pub text-as : {under : ℕ → ℕ} {pitch : Float} {before after : List ℕ} {r case : TextAnswer} → r ≡ case
+    → TextOf under pitch before (text-number r) (text-count r) after
+    → TextOf under pitch before (text-number case) (text-count case) after
+text-as {under} {pitch} {before} {after} e c =
+    subst (λ r. TextOf under pitch before (text-number r) (text-count r) after) e c
+
 -- what a call leaves in an out-word is one value: the entry's call has one where the number is 0, and else it is as it was
 out-pinned : {A : Type 0} {n n′ : ℕ} {before after after′ : A} → n ≡ n′ → (n ≡ 0 → after ≡ after′)
     → Out n before after → Out n′ before after′ → after ≡ after′
@@ -75,6 +99,22 @@ pub lane-out-pinned : {w h : ℕ} {picture : List ℕ} {from to : ℕ} {before a
 lane-out-pinned (c, o, p) (c′, o′, p′) =
     let (same, left, path, both) = lane-pinned c c′ in
     (same, left, path, out-pinned same (λ z. both z .0) o o′, out-pinned same (λ z. both z .1) p p′)
+
+-- the figure's answers one number and leaves one f64
+pub figure-out-pinned : {under : ℕ → ℕ} {pitch v v₁ v₂ : Float} {n n′ : ℕ}
+    → fits binary64 v₁ ≡ true → fits binary64 v₂ ≡ true → FigureOf under pitch n v₁ × Out n v v₁
+    → FigureOf under pitch n′ v₂ × Out n′ v v₂ → (n ≡ n′) × (v₁ ≡ v₂)
+figure-out-pinned {v₁ = v₁} {v₂} f g (c, o) (c′, o′) =
+    let (same, word) = figure-pinned c c′ in
+    (same, out-pinned same (λ z. one-value binary64 v₁ v₂ f g (word z)) o o′)
+
+-- the text's answers one number and leaves the bytes and the length in one way
+pub text-out-pinned : {under : ℕ → ℕ} {pitch : Float} {before after after′ : List ℕ} {n n′ count count₁ count₂ : ℕ}
+    → TextOf under pitch before n count₁ after × Out n count count₁
+    → TextOf under pitch before n′ count₂ after′ × Out n′ count count₂ → (n ≡ n′) × (after ≡ after′) × (count₁ ≡ count₂)
+text-out-pinned (c, o) (c′, o′) =
+    let (same, left, long) = text-pinned c c′ in
+    (same, left, out-pinned same long o o′)
 
 -- the slice's answers one number and leaves the buffers, the lines finished and the next line in one way
 pub slice-out-pinned : {w h kind line budget : ℕ} {picture : List ℕ} {before after after′ : Buffers}

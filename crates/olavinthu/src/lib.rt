@@ -7,13 +7,18 @@ use knob::clear_map;
 use knob::open;
 use lane::widest;
 use maps::picture_map;
+use millimetres::centre_figure;
+use millimetres::centre_text;
 use rules::ChangeoverAnswer;
+use rules::FigureAnswer;
 use rules::LaneAnswer;
 use rules::OpeningAnswer;
 use rules::Setting;
 use rules::SliceAnswer;
+use rules::TextAnswer;
 use slices::slice;
 ghost use Rattle.rules.specs.Calls.{buffers, PictureCall, CostCall, LaneCall, ChangeoverCall, OpeningCall, ClearCall};
+ghost use Rattle.rules.specs.Millimetres.{FigureCall, TextCall};
 ghost use Rattle.olavinthu.specs.Out.{Out, SliceTold};
 
 // The map of a picture.
@@ -126,6 +131,34 @@ pub extern "C" fn olv_clear(setting: Setting, squares: &[u32], clear: &mut [u8])
     ensures { λ r. ⌜ ClearCall setting (now (squares .entry)) (now (clear .entry)) r (now (clear .exit)) ⌝ }
 {
     clear_map(setting, squares, clear)
+}
+
+// A squared distance from centre to centre in millimetres: its number, and the figure where it is 0.
+#[no_mangle]
+pub extern "C" fn olv_millimetres(d: u32, pitch: f32, out: &mut f64) -> u32
+    ensures { λ r. ⌜ FigureCall d pitch r (now (out .exit)) × Out r (now (out .entry)) (now (out .exit)) ⌝ }
+{
+    let answer = centre_figure(d, pitch);
+    let FigureAnswer::Millimetres(figure) = answer else {
+        return 8;
+    };
+    *out = figure;
+    0
+}
+
+// The same as a text: its number, and the text's length where it is 0.
+#[no_mangle]
+pub extern "C" fn olv_millimetres_text(d: u32, pitch: f32, text: &mut [u8], length: &mut u32) -> u32
+    ensures { λ r. ⌜ TextCall d pitch (now (text .entry)) r (now (length .exit)) (now (text .exit))
+        × Out r (now (length .entry)) (now (length .exit)) ⌝ }
+{
+    match centre_text(d, pitch, text) {
+        TextAnswer::Refused(number) => number,
+        TextAnswer::Written(count) => {
+            *length = count;
+            0
+        }
+    }
 }
 
 // A slice of a map: the number that refused or stopped it, 0 for none. How many lines it finished and the next line are

@@ -16,7 +16,7 @@ pub fn good_word(k: u32) -> u32 {
 static GOOD_WORDS: LazyLock<Vec<u32>> = LazyLock::new(|| (1..=KNOB).map(good_word).collect());
 
 /// The whole number that a value is good for, if it is good.
-fn whole(value: f32) -> Option<u32> {
+pub(super) fn whole(value: f32) -> Option<u32> {
     let at = GOOD_WORDS.binary_search(&value.to_bits()).ok()?;
     Some(at as u32 + 1)
 }

@@ -16,6 +16,8 @@ pub const COST: u32 = 1_000_000;
 pub const KNOB: u32 = 4_096;
 /// The longest clear map.
 pub const CLEAR: usize = 4_194_304;
+/// The fewest bytes that a text of millimetres may be lent.
+pub const TEXT: usize = 20;
 /// The last column that a changeover may be asked of.
 pub const COLUMN: u32 = 2_047;
 /// The greatest value that a changeover may be asked with.

@@ -1,7 +1,7 @@
 //! Document 01 by the plainest methods, and what document 02 adds. Speed is no aim here: each cell of
 //! a map is held against every bore or cost, a setting against the paper's word for each whole number,
-//! a lane is found by joining cells from the widest down; so that a reader can hold the two side by
-//! side.
+//! a lane is found by joining cells from the widest down, a root by halving, digits by long division;
+//! so that a reader can hold the two side by side.
 
 mod changeover;
 mod costs;
@@ -11,6 +11,7 @@ mod lane;
 pub mod limits;
 mod loan;
 mod maps;
+mod millimetres;
 mod refusals;
 mod slices;
 
@@ -21,4 +22,5 @@ pub use knob::{good_word, opened, ClearCall};
 pub use lane::{BestLane, LaneAsked, LaneCall};
 pub use loan::{cells, BoardCall, Lengths};
 pub use maps::{Map, MapRule, PictureCall};
+pub use millimetres::{MillimetresCall, TextCall};
 pub use slices::{SliceAnswer, SliceAsked, SliceCall, Words};

@@ -20,7 +20,7 @@ mod table;
 
 use boards::{square, Drawing, SIDES, TURN};
 use contest::{times, Timed};
-use off_board::{Changeovers, Openings};
+use off_board::{millimetres, Changeovers, Openings, Texts, Values};
 use olavinthu::{Board, CostKind, Measure};
 use on_boards::{ClearMaps, Lanes, Maps};
 use std::process::ExitCode;
@@ -86,12 +86,16 @@ fn on_boards(title: &'static str, entries: &[OnBoards], drawings: &[Drawing]) ->
 fn off_board() -> Table<2> {
     let openings = || times(&mut Openings::default(), &Openings::inputs(TURN), 1);
     let changeovers = || times(&mut Changeovers::default(), &Changeovers::inputs(TURN), 1);
+    let values = || times(&mut Values::default(), &millimetres(TURN), 1);
+    let texts = || times(&mut Texts::new(), &millimetres(TURN), 1);
     Table {
         title: "Nanoseconds of a call, ours/plain = ratio:",
         head: vec!["entry", "a call"],
         rows: vec![
             Row::of_one("`olv_open`", openings),
             Row::of_one("`olv_changeover`", changeovers),
+            Row::of_one("`olv_millimetres`", values),
+            Row::of_one("`olv_millimetres_text`", texts),
         ],
         text: compared,
     }

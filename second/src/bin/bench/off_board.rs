@@ -1,11 +1,11 @@
-//! The contests that have no board: openings and changeovers.
+//! The contests that have no board: openings, changeovers and millimetres.
 
 use crate::contest::{Contest, OURS};
 use crate::plain;
-use olavinthu::{Opened, Setting};
+use olavinthu::{Opened, Setting, TEXT_BYTES};
 use second::generator::Generator;
 use second::rules::limits::{KNOB, VALUE};
-use second::rules::ChangeoverCall;
+use second::rules::{ChangeoverCall, MillimetresCall};
 
 /// Openings of good settings.
 #[derive(Default)]
@@ -67,5 +67,64 @@ impl Contest<2> for Changeovers {
 
     fn same(&mut self) -> bool {
         self.ours.map(i64::from) == Some(self.plain)
+    }
+}
+
+/// Calls for millimetres that are accepted: squared distances of any number of bits, good pitches.
+pub fn millimetres(count: usize) -> Vec<MillimetresCall> {
+    let mut generator = Generator::new(1);
+    let random = |_| MillimetresCall {
+        d: generator.word() >> generator.below(32),
+        pitch: (1 + generator.below(KNOB)) as f32 / 64.0,
+    };
+    (0..count).map(random).collect()
+}
+
+/// Values in millimetres.
+#[derive(Default)]
+pub struct Values {
+    ours: Option<f64>,
+    plain: f64,
+}
+
+impl Contest<2> for Values {
+    type Input = MillimetresCall;
+
+    fn answer(&mut self, program: usize, call: &MillimetresCall) {
+        match program {
+            OURS => self.ours = olavinthu::millimetres(call.d, call.pitch).ok(),
+            _ => self.plain = plain::millimetres(call.d, call.pitch),
+        }
+    }
+
+    fn same(&mut self) -> bool {
+        self.ours.map(f64::to_bits) == Some(self.plain.to_bits())
+    }
+}
+
+/// Texts of millimetres: the bytes lent and the length of the text, for each program.
+pub struct Texts([([u8; TEXT_BYTES], usize); 2]);
+
+impl Texts {
+    pub fn new() -> Texts {
+        Texts([([1; TEXT_BYTES], 0); 2])
+    }
+}
+
+impl Contest<2> for Texts {
+    type Input = MillimetresCall;
+
+    fn answer(&mut self, program: usize, call: &MillimetresCall) {
+        let MillimetresCall { d, pitch } = *call;
+        let (text, length) = &mut self.0[program];
+        *length = match program {
+            OURS => olavinthu::millimetres_text(d, pitch, text).expect("the call is good"),
+            _ => plain::millimetres_text(d, pitch, text),
+        };
+    }
+
+    fn same(&mut self) -> bool {
+        let [(ours, our_length), (plain, plain_length)] = &self.0;
+        ours[..*our_length] == plain[..*plain_length]
     }
 }

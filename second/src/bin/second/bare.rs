@@ -1,12 +1,12 @@
 //! What only the bare C functions show: that a refusal leaves the out-words alone, and that a slice
-//! writes them otherwise; that a null pointer with the count 0 is taken; and what a kind that the
-//! wrapper's types rule out is answered.
+//! writes them otherwise; that millimetres write nothing beside theirs; that a null pointer with the
+//! count 0 is taken; and what a kind that the wrapper's types rule out is answered.
 
 use crate::lent::rubbish;
 use crate::run::{Call, Run};
 use olavinthu::{raw, Buffers, Refusal, Setting};
 use second::generator::Generator;
-use second::rules::{ChangeoverCall, CostCall, LaneCall, SliceCall};
+use second::rules::{ChangeoverCall, CostCall, LaneCall, MillimetresCall, SliceCall};
 use std::ptr::{null, null_mut};
 
 /// Makes a call that is refused, with rubbish in its two out-words, which must stay.
@@ -110,6 +110,25 @@ pub fn cost_map(call: &CostCall, buffers: Buffers) -> Result<(), Refusal> {
     Refusal::of(answer)
 }
 
+/// Asks for millimetres, with an out-word of the caller's: the word of the value.
+pub fn millimetres(call: &MillimetresCall, word: &mut u64) -> Result<(), Refusal> {
+    // SAFETY: the out-word is valid, and is as large as an f64.
+    Refusal::of(unsafe { raw::olv_millimetres(call.d, call.pitch, (word as *mut u64).cast()) })
+}
+
+/// Asks for a text of millimetres, with an out-word of the caller's: its length.
+pub fn millimetres_text(
+    call: &MillimetresCall,
+    text: &mut [u8],
+    length: &mut u32,
+) -> Result<(), Refusal> {
+    let MillimetresCall { d, pitch } = *call;
+    // SAFETY: the pointer stands with the length of its own slice, and the out-word is valid.
+    let answer =
+        unsafe { raw::olv_millimetres_text(d, pitch, text.as_mut_ptr(), text.len(), length) };
+    Refusal::of(answer)
+}
+
 /// A call whose lists are all null, and so too short: its name, and the function that makes it.
 struct NullLists(&'static str, fn() -> u32);
 
@@ -155,6 +174,12 @@ fn null_clear() -> u32 {
     unsafe { raw::olv_clear(setting, null(), 0, null_mut(), 0) }
 }
 
+fn null_text() -> u32 {
+    let mut n = 0;
+    // SAFETY: a list of no elements may be null, and the out-word is a local.
+    unsafe { raw::olv_millimetres_text(2, 1.0, null_mut(), 0, &mut n) }
+}
+
 fn null_lane() -> u32 {
     let none = null_mut();
     let (mut w, mut n) = (0, 0);
@@ -170,6 +195,7 @@ pub fn compare(run: &mut Run) {
         NullLists("slice", null_slice),
         NullLists("cost map", null_cost_map),
         NullLists("clear", null_clear),
+        NullLists("text", null_text),
         NullLists("lane", null_lane),
     ];
     for call in calls {

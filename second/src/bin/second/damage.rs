@@ -16,7 +16,8 @@ pub fn hold<P: Clone, A: Clone, C: Call>(
     damages: &[Damage<P, A>],
     case: fn(BoardCall<P, A>) -> C,
 ) {
-    for call in spoiled(sound, damages) {
+    let least = Lengths::least(sound.board);
+    for call in spoiled(sound, damages, |damage, call| damage(least, call)) {
         run.hold("one damage or two", &case(call));
     }
 }
@@ -38,18 +39,15 @@ pub fn hold_short<P: Clone, A: Clone, C: Call>(
     }
 }
 
-fn spoiled<P: Clone, A: Clone>(
-    sound: &BoardCall<P, A>,
-    damages: &[Damage<P, A>],
-) -> Vec<BoardCall<P, A>> {
-    let least = Lengths::least(sound.board);
+/// A sound call with each damage by itself, and with every two. A damage is done to a call as said.
+pub fn spoiled<C: Clone, D>(sound: &C, damages: &[D], done: impl Fn(&D, &mut C)) -> Vec<C> {
     let mut calls = vec![];
     for (at, one) in damages.iter().enumerate() {
         let mut once = sound.clone();
-        one(least, &mut once);
+        done(one, &mut once);
         for other in &damages[at + 1..] {
             let mut twice = once.clone();
-            other(least, &mut twice);
+            done(other, &mut twice);
             calls.push(twice);
         }
         calls.push(once);

@@ -56,8 +56,11 @@ impl Call for ClearCall {
 }
 
 fn drawn(setting: Setting) -> String {
-    let word = |value: f32| format!("{value} (word {:#010x})", value.to_bits());
-    format!("pitch {}, radius {}", word(setting.pitch), word(setting.radius))
+    format!("pitch {}, radius {}", drawn_value(setting.pitch), drawn_value(setting.radius))
+}
+
+pub fn drawn_value(value: f32) -> String {
+    format!("{value} (word {:#010x})", value.to_bits())
 }
 
 pub fn compare(run: &mut Run) {
@@ -69,7 +72,7 @@ pub fn compare(run: &mut Run) {
 }
 
 /// A good value, now and then one at the edges.
-fn good(generator: &mut Generator) -> f32 {
+pub fn good(generator: &mut Generator) -> f32 {
     let any = 1 + generator.below(KNOB);
     let k = generator.pick(&[any, any, any, any, 1, 2, KNOB - 1, KNOB]);
     f32::from_bits(good_word(k))
@@ -87,37 +90,49 @@ fn good_values(run: &mut Run) {
     for k in 1..=KNOB {
         let word = good_word(k);
         both_ways(run, "every good value", f32::from_bits(word));
-        // Below, above, half and double, and negative.
-        for next in [word - 1, word + 1, word - (1 << 23), word + (1 << 23), word | 1 << 31] {
+        for next in next_to(word) {
             both_ways(run, "next to each good value", f32::from_bits(next));
         }
     }
 }
 
-/// The values that document 01 lists, and those that are not ordinary numbers.
-fn listed_values(run: &mut Run) {
+/// Below a word, above it, half and double, and negative.
+pub fn next_to(word: u32) -> [u32; 5] {
+    [word - 1, word + 1, word - (1 << 23), word + (1 << 23), word | 1 << 31]
+}
+
+/// The words of the values that document 01 lists, and of those that are not ordinary numbers.
+pub fn listed_and_strange() -> impl Iterator<Item = u32> {
     let listed = [0.015625, 64.0, 64.015625, 0.01, 0.0, -1.0];
     let strange = [-0.0, f32::INFINITY, f32::NEG_INFINITY, f32::MIN_POSITIVE, f32::MAX];
     let values = listed.into_iter().chain(strange).map(f32::to_bits);
     // NaNs that are quiet and that signal, of both signs, and the least and greatest subnormal.
     let words = [0x7fc0_0000, 0x7f80_0001, 0x7fff_ffff, 0xffc0_0000, 0xff80_0001, 1, 0x7f_ffff];
-    for word in values.chain(words) {
+    values.chain(words)
+}
+
+fn listed_values(run: &mut Run) {
+    for word in listed_and_strange() {
         both_ways(run, "the listed and the strange values", f32::from_bits(word));
     }
 }
 
-/// Words of any pattern, and words with the exponent of a good value, some of them with few digits
-/// and so good themselves.
+/// Words of any pattern, and words near good ones.
 fn random_values(run: &mut Run) {
     for _ in 0..100_000 {
         let any = run.generator.word();
         both_ways(run, "random words", f32::from_bits(any));
-        let exponent = 121 + run.generator.below(13);
-        let digits = run.generator.pick(&[6, 12, 23]);
-        let mantissa = run.generator.below(1 << digits) << (23 - digits);
-        let near = exponent << 23 | mantissa;
+        let near = near_good(&mut run.generator);
         both_ways(run, "random words near good ones", f32::from_bits(near));
     }
+}
+
+/// A word with the exponent of a good value; some of them have few digits and so are good themselves.
+pub fn near_good(generator: &mut Generator) -> u32 {
+    let exponent = 121 + generator.below(13);
+    let digits = generator.pick(&[6, 12, 23]);
+    let mantissa = generator.below(1 << digits) << (23 - digits);
+    exponent << 23 | mantissa
 }
 
 /// The greatest squared distance on a board.

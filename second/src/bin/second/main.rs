@@ -20,6 +20,7 @@ mod lanes;
 mod lent;
 mod map_case;
 mod maps;
+mod millimetres;
 mod run;
 mod slice_case;
 mod slices;
@@ -43,6 +44,7 @@ fn main() {
     costs::compare(&mut run);
     changeovers::compare(&mut run);
     knob::compare(&mut run);
+    millimetres::compare(&mut run);
     lanes::compare(&mut run);
     files::compare(&mut run);
     bare::compare(&mut run);

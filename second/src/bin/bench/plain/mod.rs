@@ -9,6 +9,6 @@ mod line;
 mod maps;
 mod metric;
 
-pub use calls::{changeover, clear, open};
+pub use calls::{changeover, clear, millimetres, millimetres_text, open};
 pub use lane::PlainLane;
 pub use maps::PlainMap;

@@ -3,13 +3,11 @@
 use mathlib.Core.Path.{_≡_, refl, _∙_, sym, ap, subst}
 use mathlib.Core.List.{List, [], _∷_, _++_, append-assoc}
 use Prim.Native.Nat.{ℕ, zero, suc, _+_, _-_, _/_, _%_, _^_, _≤_, _<_}
-use native.Mathlib.Nat.{pow-suc, div-lt-iff-lt-mul}
 use native.Mathlib.Omega.{arith}
-use lib.Dec.{lit<}
 use lib.ListN.{length, getD, set, drop, length-set}
 use lib.Seq.{drop-length, drop-cons}
 use Rattle.rules.specs.BenchFile.{digits, decimal, line}
-use Rattle.rules.proofs.Digits.{stored, one-digit, more-digits, digits-before}
+use Rattle.rules.proofs.Digits.{tenth-below, stored, one-digit, more-digits, digits-before}
 use Rattle.bench.specs.Putting.{Put, PutNumber, PutLine}
 
 -- the bytes from i on have been put
@@ -97,7 +95,7 @@ module _ {end number : ℕ} {before : List ℕ} where
               left = left;
               place = omega arith;
               behind = omega (arith, S .behind);
-              small = div-lt-iff-lt-mul (lit< tt) .1 (rw (pow-suc 10 (suc left)) at small);
+              small = tenth-below (suc left) small;
               as-long = length-set now at (48 + rest % 10) ∙ S .as-long;
               reads =
                   ap (λ n. digits (suc left) (rest / 10) (drop n (set now at (48 + rest % 10)))) last

@@ -4,15 +4,14 @@
 use mathlib.Core.Path.{_≡_, refl, _∙_, sym, ap}
 use mathlib.Core.List.{List, [], _∷_, _++_, append-assoc}
 use Prim.Native.Nat.{ℕ, zero, suc, _+_, _-_, _*_, _/_, _%_, _^_, _≤_, _<_}
-use native.Mathlib.Nat.{pow-suc, div-lt-iff-lt-mul}
 use native.Mathlib.Omega.{arith}
-use lib.Dec.{lit<}
-use lib.ListN.{length, set, drop, length-set, length-append}
+use lib.ListN.{length, set, drop, length-set}
 use borrow.Author.Tests.{lt-ltb, le-ltb}
 use Rattle.rules.specs.BenchFile.{decimal}
 use Rattle.rules.specs.Millimetres.{last-digits, millimetre-text, Lettered}
-use Rattle.rules.proofs.Digits.{stored, digits-before, last-before, digit-count, digits-last, last-length}
-use Rattle.figure_text.specs.Digits.{Counted, Placed}
+use Rattle.rules.proofs.Digits.{tenth-below, stored, last-before, digit-count, decimal-count, decimal-last}
+use Rattle.rules.proofs.Millimetres.{text-length}
+use Rattle.figure_text.specs.Digits.{Placed}
 
 -- so many digits are counted, with one of the rest among them, and no more than ten are there in all
 pub record Counting (number count rest : ℕ) : Type 0 where
@@ -39,19 +38,15 @@ module _ {number count rest : ℕ} (C : Counting number count rest) where
           record {
             most = most;
             place = omega arith;
-            small = div-lt-iff-lt-mul (lit< tt) .1 (rw (pow-suc 10 (suc most)) at small);
+            small = tenth-below (suc most) small;
             counts = omega arith;
           }
 
   -- below 10 all are counted
-  pub counting-all : rest < 10 → Counted number count
+  pub counting-all : rest < 10 → count ≡ length (decimal number)
   counting-all h =
       let one : digit-count (suc (C .most)) rest ≡ 1 = rw (lt-ltb rest 10 h) refl in
-      let same : digit-count 10 number ≡ count = omega (arith, C .counts) in
-      record {
-        count-to = omega (arith, C .place);
-        all = λ after. digits-last 10 number after ∙ ap (λ k. last-digits k number after) same;
-      }
+      omega (arith, C .counts, decimal-count number)
 
 -- the digits from place i on are put; those of the rest are to come, i of them
 pub record Placing (begin count number : ℕ) (before now : List ℕ) (rest i : ℕ) : Type 0 where
@@ -94,35 +89,29 @@ module _ {begin count number : ℕ} {before : List ℕ} where
         ap (λ k. drop k now) (sym from) ∙ reads
 
 -- the parts of a text, one in front of the other
-text-parts : (n count : ℕ) → Counted (n / 256) count → (after : List ℕ)
-    → last-digits count (n / 256) (46 ∷ last-digits 8 (n % 256 * 390_625) after) ≡ millimetre-text n ++ after
-text-parts n count C after =
+text-parts : (n : ℕ) (after : List ℕ)
+    → last-digits (length (decimal (n / 256))) (n / 256) (46 ∷ last-digits 8 (n % 256 * 390_625) after)
+    ≡ millimetre-text n ++ after
+text-parts n after =
     let whole : ℕ = n / 256 in
     let tail : ℕ = n % 256 * 390_625 in
     let eight : List ℕ = last-digits 8 tail [] in
-    ap (λ l. last-digits count whole (46 ∷ l)) (last-before 8 tail [] after)
-    ∙ sym (C .all ((46 ∷ eight) ++ after)) ∙ digits-before 10 whole [] ((46 ∷ eight) ++ after)
-    ∙ sym (append-assoc (decimal whole) (46 ∷ eight) after)
-
--- their length
-text-length : (n count : ℕ) → Counted (n / 256) count → length (millimetre-text n) ≡ count + 1 + 8
-text-length n count C =
-    let whole : ℕ = n / 256 in
-    let tail : ℕ = n % 256 * 390_625 in
-    let front : length (decimal whole) ≡ count + 0 = ap length (C .all []) ∙ last-length count whole [] in
-    let back : length (last-digits 8 tail []) ≡ 8 + 0 = last-length 8 tail [] in
-    length-append (decimal whole) (46 ∷ last-digits 8 tail []) ∙ omega arith
+    ap (λ l. last-digits (length (decimal whole)) whole (46 ∷ l)) (last-before 8 tail [] after)
+    ∙ decimal-last whole ((46 ∷ eight) ++ after) ∙ sym (append-assoc (decimal whole) (46 ∷ eight) after)
 
 -- so three parts put in front of each other are a text
-pub lettered : {n count : ℕ} {before after : List ℕ} (eighth : List ℕ) → Counted (n / 256) count → count < length eighth
-    → Placed (count + 1) 8 (n % 256 * 390_625) before eighth → Placed 0 count (n / 256) (set eighth count 46) after
-    → Lettered n before after (count + 1 + 8)
-lettered {n} {count} {before} eighth C room P Q =
+pub lettered : {n count : ℕ} {before after : List ℕ} (eighth : List ℕ) → count ≡ length (decimal (n / 256))
+    → count < length eighth → Placed (count + 1) 8 (n % 256 * 390_625) before eighth
+    → Placed 0 count (n / 256) (set eighth count 46) after → Lettered n before after (count + 1 + 8)
+lettered {n} {count} {before} eighth counted room P Q =
     let tail : ℕ = n % 256 * 390_625 in
+    let rest : List ℕ = drop (count + 1 + 8) before in
     let from : 0 + count ≡ count = omega arith in
-    let pointed : drop (0 + count) (set eighth count 46) ≡ 46 ∷ last-digits 8 tail (drop (count + 1 + 8) before) =
+    let pointed : drop (0 + count) (set eighth count 46) ≡ 46 ∷ last-digits 8 tail rest =
     ap (λ k. drop k (set eighth count 46)) from ∙ stored eighth count 46 room ∙ ap (λ l. 46 ∷ l) P in
     record {
-      count-is = sym (text-length n count C);
-      after-is = Q ∙ ap (last-digits count (n / 256)) pointed ∙ text-parts n count C (drop (count + 1 + 8) before);
+      count-is = omega (arith, text-length n);
+      after-is =
+          Q ∙ ap (last-digits count (n / 256)) pointed
+          ∙ ap (λ k. last-digits k (n / 256) (46 ∷ last-digits 8 tail rest)) counted ∙ text-parts n rest;
     }

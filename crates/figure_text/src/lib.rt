@@ -1,9 +1,11 @@
 // A whole number of 1/256 mm as a text: whole digits, a point and eight digits, from the buffer's first byte on.
 ghost use Prim.Native.Nat.{_+_, _≤_};
+ghost use mathlib.Core.Path.{_≡_};
 ghost use lib.ListN.{length};
+ghost use Rattle.rules.specs.BenchFile.{decimal};
 ghost use Rattle.rules.specs.Limits.{text-bytes};
 ghost use Rattle.rules.specs.Millimetres.{Lettered};
-ghost use Rattle.figure_text.specs.Digits.{Counted, Placed};
+ghost use Rattle.figure_text.specs.Digits.{Placed};
 
 // 1/256 in hundred-millionths.
 const PART: u32 = 390_625;
@@ -14,7 +16,7 @@ const ZERO: u32 = 48;
 
 // How many digits a number has, 1 for 0.
 fn digit_count(number: u32) -> usize
-    ensures { λ r. ⌜ Counted number r ⌝ }
+    ensures { λ r. ⌜ r ≡ length (decimal number) ⌝ }
 {
     let mut count = 1;
     let mut rest = number;

@@ -1,9 +1,8 @@
 -- Millimetres on the screen: one root, one word, one text, and all three say the same number.
 --
 -- A number has one whole root, since squares rise. The figure's word is that of N over 2^8 (`FloatWord`), or 0: for N
--- below 2^53 an f64 has it exactly if its sign is positive and its value is N/256 (`figure-exactly`). The text's whole
--- digits are as many last digits of a number as it has (`digits-last`); read from the left, last digits give the number
--- back, and the leading one of a number that is not 0 is no zero. So for N below 2^32 the text says N·390,625
+-- below 2^53 an f64 has it exactly if its sign is positive and its value is N/256 (`figure-exactly`). The text's digits,
+-- read from the left, give the whole part and the tail back (`Digits`). So for N below 2^32 the text says N·390,625
 -- hundred-millionths, and that is N/256 (`text-says`). A figure and a text of one root say one number (`told-alike`).
 -- Assumes nothing.
 use mathlib.Core.Path.{_≡_, refl, sym, ap, _∙_, subst}
@@ -24,9 +23,9 @@ use lib.Ieee.Exact.{HasValue}
 use Rattle.rules.specs.Limits.{knob-limit}
 use Rattle.rules.specs.BenchFile.{decimal}
 use Rattle.rules.specs.Millimetres.{word-64, Root, FigureWord, FigureValue, last-digits, millimetre-text}
-use Rattle.rules.specs.Millimetres.{Digits, read, Says, Figured, Spelled, centre-under}
-use Rattle.rules.proofs.Digits.{digit-count, digits-last, count-enough, count-most, some-count, two-digits}
-use Rattle.rules.proofs.Digits.{last-all-digits, last-length, last-read}
+use Rattle.rules.specs.Millimetres.{read, Says, Figured, Spelled, centre-under}
+use Rattle.rules.proofs.Digits.{last-all-digits, last-length, last-read, two-digits}
+use Rattle.rules.proofs.Digits.{decimal-some, decimal-most, decimal-digits, decimal-read}
 use Rattle.rules.proofs.FloatWord.{leading, exponent-below, one-exponent, word-of-value, fraction-exact, one-value}
 
 -- a smaller square has a smaller root
@@ -107,23 +106,26 @@ pub text-says : (n : ℕ) → n < 2 ^ 32 → Says (millimetre-text n) (n * 390_6
 text-says n small =
     let whole = n / 256 in
     let tail = n % 256 * 390_625 in
-    let count = digit-count 10 whole in
-    let last : decimal whole ≡ last-digits count whole [] = digits-last 10 whole [] in
     let ten : whole < 10 ^ 10 = omega arith in
-    let long : length (decimal whole) ≡ count + 0 = ap length last ∙ last-length count whole [] in
-    let reads : read 0 (decimal whole) ≡ whole = ap (read 0) last ∙ last-read count whole [] (count-enough 10 whole ten) in
     let tail-reads : read 0 (last-digits 8 tail []) ≡ tail = last-read 8 tail [] (omega arith) in
     record {
       whole = decimal whole;
       tail = last-digits 8 tail [];
       text-is = refl;
-      whole-digits = subst Digits (sym last) (last-all-digits count whole [] tt);
-      some-digit = omega (arith, some-count 9 whole);
+      whole-digits = decimal-digits whole;
+      some-digit = decimal-some whole;
       no-leading-zero = two-digits whole ten;
       tail-digits = last-all-digits 8 tail [] tt;
       tail-eight = last-length 8 tail [];
-      says = rw (reads, tail-reads) (omega arith);
+      says = rw (decimal-read whole ten, tail-reads) (omega arith);
     }
+
+-- a text is as long as its whole digits, and nine bytes more
+pub text-length : (n : ℕ) → length (millimetre-text n) ≡ length (decimal (n / 256)) + 9
+text-length n =
+    let tail = n % 256 * 390_625 in
+    let back : length (last-digits 8 tail []) ≡ 8 + 0 = last-length 8 tail [] in
+    length-append (decimal (n / 256)) (46 ∷ last-digits 8 tail []) ∙ omega arith
 
 -- A text is from 10 to 16 bytes long, whatever the distance: N is below 2^30.
 pub text-from-to : {d a n : ℕ} → d < 2 ^ 32 → a ≤ knob-limit → Root (centre-under d a) n
@@ -133,14 +135,8 @@ text-from-to {d} {a} {n} any-word to root =
     let sixteen : 16 * d ≤ 16 * (2 ^ 32 - 1) = omega arith in
     let under : 16 * d * (a * a) ≤ 16 * (2 ^ 32 - 1) * (knob-limit * knob-limit) = mul-le-mul sixteen squares in
     let small : n < 2 ^ 30 = root-small root (2 ^ 30) (omega arith) in
-    let whole = n / 256 in
-    let tail = n % 256 * 390_625 in
-    let count = digit-count 10 whole in
-    let front : length (decimal whole) ≡ count + 0 = ap length (digits-last 10 whole []) ∙ last-length count whole [] in
-    let back : length (last-digits 8 tail []) ≡ 8 + 0 = last-length 8 tail [] in
-    let long : length (millimetre-text n) ≡ count + 9 =
-    length-append (decimal whole) (46 ∷ last-digits 8 tail []) ∙ omega arith in
-    (omega (arith, some-count 9 whole), omega (arith, count-most 10 6 whole (omega arith)))
+    let whole : n / 256 < 10 ^ 7 = omega arith in
+    (omega (arith, text-length n, decimal-some (n / 256)), omega (arith, text-length n, decimal-most 6 whole))
 
 -- a float of the value n/256 has that value in hundred-millionths
 in-hundred-millionths : (v : Float) (n : ℕ) → FigureValue v n → HasValue v false (n * 390_625) (10 ^ 8)

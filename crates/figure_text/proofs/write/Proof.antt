@@ -1,19 +1,27 @@
 -- `figure_text::write` meets its contract: eight digits, the point and the whole digits, each in front of the one before.
 -- Assumes nothing.
 use mathlib.Core.Path.{_≡_, _∙_}
-use Prim.Native.Nat.{ℕ, _<_}
+use Prim.Native.Nat.{ℕ, _/_, _≤_, _<_}
 use native.Mathlib.Omega.{arith}
 use borrow.Author.Needs.{needs}
 use lib.ListN.{length, set, length-set}
+use Rattle.rules.proofs.Digits.{decimal-most}
 use Rattle.figure_text.proofs.Writing.{lettered}
 use Rattle.figure_text.proofs.write.Statement.{statement}
 use Rattle.figure_text.proofs.write.Tie as tie
 
+-- a u32 has ten digits at most
+few : (c : tie.After-digit-count) → c .digit-count .result ≤ 10
+few c = omega (arith, c .digit-count .ensures, decimal-most 9 {n = c .before .before .args .n / 256} (omega arith))
+
+-- the way back from all three parts to the count
+abbrev counted : tie.After-slice-known3 → tie.After-digit-count
+counted c = c .before .before .before .before .before .before .before .before
+
 -- past the eight digits the point has a place
 point-in : (c : tie.After-put-digits) → c .before .before .digit-count .result < length (c .put-digits .last .0)
 point-in c =
-    let counted = c .before .before in
-    omega (arith, c .put-digits .kept .0, counted .digit-count .ensures .count-to, counted .before .before .pre)
+    omega (arith, c .put-digits .kept .0, few (c .before .before), c .before .before .before .before .pre)
 
 -- and it leaves the bytes as many
 as-long : (c : tie.After-put-digits)
@@ -24,16 +32,16 @@ digit-count-requires : tie.Need-digit-count-requires
 digit-count-requires c κs = search needs
 
 add-put-digits : tie.Need-add-put-digits
-add-put-digits c = search needs
+add-put-digits c = omega (arith, few (c .before))
 
 mul-put-digits : tie.Need-mul-put-digits
 mul-put-digits c = search needs
 
 put-digits-requires : tie.Need-put-digits-requires
-put-digits-requires c κs = search needs
+put-digits-requires c κs = omega (arith, few (c .before), c .before .before .before .pre)
 
 slice-write-text : tie.Need-slice-write-text
-slice-write-text c = search needs
+slice-write-text c = point-in (c .before .before)
 
 put-digits-requires-2 : tie.Need-put-digits-requires-2
 put-digits-requires-2 c κs =
@@ -41,13 +49,13 @@ put-digits-requires-2 c κs =
     omega (arith, point-in first, as-long first)
 
 add-result : tie.Need-add-result
-add-result c = search needs
+add-result c = omega (arith, few (counted c))
 
 add-result-2 : tie.Need-add-result-2
-add-result-2 c = search needs
+add-result-2 c = omega (arith, few (counted c))
 
 cast-result : tie.Need-cast-result
-cast-result c = search needs
+cast-result c = omega (arith, few (counted c))
 
 same-length : tie.Need-same-length
 same-length c =

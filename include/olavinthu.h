@@ -232,8 +232,8 @@ uint32_t olv_clear(olv_setting setting,
 uint32_t olv_millimetres(uint32_t d, float pitch, double *out);
 
 /*
- * The same number as a text: whole digits with no needless zero in front, a point, and eight digits, as 1.41406250 for
- * d = 2 and a pitch of 1 mm. The digits are exact.
+ * The same number as a text: whole digits with no needless zero in front, 0 where there is no whole millimetre, a point,
+ * and eight digits, as 1.41406250 for d = 2 and a pitch of 1 mm. The digits are exact.
  *
  *   d, pitch  as for olv_millimetres
  *   text      at least OLV_TEXT_BYTES bytes; the first *length become the text. No byte 0 is put behind it: what stands

@@ -6,8 +6,9 @@ use Prim.Native.Nat.{ℕ, zero, suc, _+_, _-_, _/_, _%_, _^_, _≤_, _<_}
 use native.Mathlib.Omega.{arith}
 use lib.ListN.{length, getD, set, drop, length-set}
 use lib.Seq.{drop-length, drop-cons}
+use borrow.Author.Tests.{lt-ltb, le-ltb}
 use Rattle.rules.specs.BenchFile.{digits, decimal, line}
-use Rattle.rules.proofs.Digits.{tenth-below, stored, one-digit, more-digits, digits-before}
+use Rattle.rules.proofs.Digits.{tenth-below, stored, digits-before}
 use Rattle.bench.specs.Putting.{Put, PutNumber, PutLine}
 
 -- the bytes from i on have been put
@@ -47,6 +48,15 @@ module _ {end at : ℕ} {bytes before : List ℕ} where
           begins = ends;
           reads = ap (λ n. drop n now) (sym from) ∙ P .reads ∙ ap (λ n. drop n bytes ++ drop end before) z;
         }
+
+-- a number below 10 is one digit
+one-digit : (left rest : ℕ) (after : List ℕ) → rest < 10 → digits (suc left) rest after ≡ (48 + rest) ∷ after
+one-digit left rest after h = rw (lt-ltb rest 10 h)
+
+-- another has its last digit behind those of its tenth
+more-digits : (left rest : ℕ) (after : List ℕ) → 10 ≤ rest
+    → digits (suc left) rest after ≡ digits left (rest / 10) ((48 + rest % 10) ∷ after)
+more-digits left rest after h = rw (le-ltb rest 10 h)
 
 -- the digits behind the place at have been put; those of the rest are to come, at most one more than are left
 pub record Spelling (end number : ℕ) (before now : List ℕ) (at rest : ℕ) : Type 0 where

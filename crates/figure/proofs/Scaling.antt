@@ -1,35 +1,19 @@
 -- A whole number below 2^53, as an f64, is scaled by 1/256 without loss. One that is not 0 goes to the f64 nearest to
--- n/256, which is n/256 itself; and 0 to the positive zero. The constant is any float of the value named. Assumes
--- nothing.
-use mathlib.Core.Path.{_≡_, ap, _∙_, subst, sym}
+-- n/256 (`part-of`), which is n/256 itself; and 0 to the positive zero. The constant is any float of the value named.
+-- Assumes nothing.
+use mathlib.Core.Path.{_≡_, subst, sym}
 use mathlib.Core.Bool.{true, false, true≢false}
 use Prim.Native.Nat.{ℕ, zero, suc, _*_, _^_, _<_}
-use native.Mathlib.Nat.{mul-one, zero-mul, eq-of-mul-eq-mul-right}
+use native.Mathlib.Nat.{zero-mul, eq-of-mul-eq-mul-right}
 use native.Mathlib.Omega.{arith}
 use lib.IntN.{pos}
 use lib.Dec.{lit<}
 use lib.Ieee.{Float, nan, inf, fin, binary64, up, down, size, odd, units, mul, ofInt, round}
 use lib.Ieee.Fits.{down-pos}
 use lib.Ieee.Exact.{HasValue, round-exact}
-use lib.Ieee.Back.{round-whole}
-use lib.Ieee.Positive.{positive-of-value, mul-at}
 use Rattle.rules.specs.Millimetres.{word-64, FigureWord}
+use Rattle.rules.proofs.FloatWord.{part-of}
 use Rattle.rules.proofs.Millimetres.{figure-float, figure-value, value-figure}
-
--- a whole number is an f64
-whole-value : (n : ℕ) → n < 2 ^ 53 → HasValue (ofInt binary64 (pos n)) false n 1
-unfolding ofInt
-whole-value n small = round-whole binary64 false n (omega arith)
-
--- scaled by 1/256 it is the f64 n/256, if it is not 0
-scaled-is : (n : ℕ) (step : Float) → 0 < n → n < 2 ^ 53 → HasValue step false 1 256
-    → mul binary64 (ofInt binary64 (pos n)) step ≡ figure-float n
-scaled-is n step some small s =
-    let x = ofInt binary64 (pos n) in
-    let whole = whole-value n small in
-    mul-at binary64 x step n 1 1 256 (positive-of-value x n 1 whole some) (positive-of-value step 1 256 s (lit< tt))
-    (lit< tt) (lit< tt) whole s
-    ∙ ap (λ (k : ℕ). round binary64 false k 256) (mul-one n)
 
 -- a float of no size has none, whatever it is counted in
 no-size : (v : Float) (c : ℕ) → 0 < c → HasValue v false 0 c → HasValue v false 0 256
@@ -60,5 +44,6 @@ pub scaled : (n : ℕ) (step : Float) → n < 2 ^ 53 → HasValue step false 1 2
     → FigureWord (word-64 (mul binary64 (ofInt binary64 (pos n)) step)) n
 scaled zero step small s = value-figure _ 0 small (zero-scaled step s)
 scaled (suc n) step small s =
-    subst (λ (x : Float). FigureWord (word-64 x) (suc n)) (sym (scaled-is (suc n) step (omega arith) small s))
+    subst (λ (x : Float). FigureWord (word-64 x) (suc n))
+    (sym (part-of binary64 (suc n) 256 step (omega arith) (lit< tt) (omega arith) s))
     (value-figure (figure-float (suc n)) (suc n) small (figure-value small))

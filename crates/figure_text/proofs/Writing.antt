@@ -100,15 +100,15 @@ text-parts n after =
     ∙ decimal-last whole ((46 ∷ eight) ++ after) ∙ sym (append-assoc (decimal whole) (46 ∷ eight) after)
 
 -- so three parts put in front of each other are a text
-pub lettered : {n count : ℕ} {before after : List ℕ} (eighth : List ℕ) → count ≡ length (decimal (n / 256))
-    → count < length eighth → Placed (count + 1) 8 (n % 256 * 390_625) before eighth
-    → Placed 0 count (n / 256) (set eighth count 46) after → Lettered n before after (count + 1 + 8)
-lettered {n} {count} {before} eighth counted room P Q =
+pub lettered : {n count : ℕ} {before after : List ℕ} (eight-put : List ℕ) → count ≡ length (decimal (n / 256))
+    → count < length eight-put → Placed (count + 1) 8 (n % 256 * 390_625) before eight-put
+    → Placed 0 count (n / 256) (set eight-put count 46) after → Lettered n before after (count + 1 + 8)
+lettered {n} {count} {before} eight-put counted room P Q =
     let tail : ℕ = n % 256 * 390_625 in
     let rest : List ℕ = drop (count + 1 + 8) before in
     let from : 0 + count ≡ count = omega arith in
-    let pointed : drop (0 + count) (set eighth count 46) ≡ 46 ∷ last-digits 8 tail rest =
-    ap (λ k. drop k (set eighth count 46)) from ∙ stored eighth count 46 room ∙ ap (λ l. 46 ∷ l) P in
+    let pointed : drop (0 + count) (set eight-put count 46) ≡ 46 ∷ last-digits 8 tail rest =
+    ap (λ k. drop k (set eight-put count 46)) from ∙ stored eight-put count 46 room ∙ ap (λ l. 46 ∷ l) P in
     record {
       count-is = omega (arith, text-length n);
       after-is =

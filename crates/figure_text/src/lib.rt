@@ -7,7 +7,9 @@ ghost use Rattle.rules.specs.Limits.{text-bytes};
 ghost use Rattle.rules.specs.Millimetres.{Lettered};
 ghost use Rattle.figure_text.specs.Digits.{Placed};
 
-// 1/256 in hundred-millionths.
+// A millimetre in 1/256 mm, and 1/256 in hundred-millionths.
+const WHOLE: u32 = 256;
+
 const PART: u32 = 390_625;
 // The digits after the point.
 const TAIL: usize = 8;
@@ -47,9 +49,9 @@ pub fn write(n: u32, text: &mut [u8]) -> u32
     requires { ⌜ text-bytes ≤ length (now text) ⌝ }
     ensures { λ r. ⌜ Lettered n (now (text .entry)) (now (text .exit)) r ⌝ }
 {
-    let whole = n / 256;
+    let whole = n / WHOLE;
     let count = digit_count(whole);
-    put_digits(text, count + 1, TAIL, n % 256 * PART);
+    put_digits(text, count + 1, TAIL, n % WHOLE * PART);
     text[count] = b'.';
     put_digits(text, 0, count, whole);
     (count + 1 + TAIL) as u32

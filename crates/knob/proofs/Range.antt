@@ -11,10 +11,10 @@ use lib.Dec.{T, lit<, lit≤, lt→ltb, le→leb}
 use lib.Ieee.{Float, nan, inf, fin, binary32, up, down, ofInt, toUnsigned, inFloat, lt, le}
 use lib.Ieee.Fits.{down-pos}
 use lib.Ieee.Exact.{HasValue}
-use lib.Ieee.Back.{round-whole}
 use lib.Ieee.Positive.{num, den, positive, own-value, positive-of-value, between, values-of-le}
 use Rattle.rules.specs.Limits.{knob-limit}
 use Rattle.rules.specs.Knob.{Good}
+use Rattle.rules.proofs.FloatWord.{whole-exact}
 
 -- a whole number that a knob can give
 pub record Whole (k : ℕ) : Type 0 where
@@ -32,8 +32,7 @@ holds-whole {k} w = le→leb k (2 ^ 24) (omega (arith, w .to))
 
 -- that float has its value
 pub whole-value : {k : ℕ} → Whole k → HasValue (ofInt binary32 (pos k)) false k 1
-unfolding ofInt
-whole-value {k} w = round-whole binary32 false k (omega (arith, w .to))
+whole-value {k} w = whole-exact binary32 k (omega (arith, w .to))
 
 -- the limit is such a number
 pub top-whole : Whole knob-limit

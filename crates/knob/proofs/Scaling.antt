@@ -19,6 +19,7 @@ use lib.Ieee.Positive.{positive-of-value, first-pos, mul-at}
 use borrow.Author.Tests.{eqb-true}
 use Rattle.rules.specs.Limits.{knob-limit}
 use Rattle.rules.specs.Knob.{Good}
+use Rattle.rules.proofs.FloatWord.{part-of}
 use Rattle.rules.proofs.KnobValue.{value-word, good-of-value, sixty-fourths, exact, good-float}
 use Rattle.knob.proofs.Range.{Whole, good-whole, holds-whole, whole-value, top-whole}
 
@@ -31,9 +32,7 @@ product x y a c b d A C B D h k =
 -- 1/64 of the float k is the float k/64
 comes : (back : Float) {k : ℕ} → Whole k → HasValue back false 1 64
     → mul binary32 (ofInt binary32 (pos k)) back ≡ sixty-fourths k
-comes back {k} w b =
-    product (ofInt binary32 (pos k)) back k 1 1 64 (w .from) (lit< tt) (lit< tt) (lit< tt) (whole-value w) b
-    ∙ ap sixty-fourths (mul-one k)
+comes back {k} w b = part-of binary32 k 64 back (w .from) (lit< tt) (omega (arith, w .to)) b
 
 -- a float that equals one of a positive value has that value
 same-value : (x v : Float) (a c : ℕ) → 0 < a → HasValue x false a c → eq x v ≡ true → HasValue v false a c

@@ -4,29 +4,17 @@
 use mathlib.Core.Path.{_≡_, refl}
 use mathlib.Core.Bool.{true}
 use mathlib.Core.List.{List}
-use Prim.Native.Nat.{ℕ, _*_, _^_, _≤_, _<_}
-use native.Mathlib.Nat.{mul-le-mul}
+use Prim.Native.Nat.{ℕ, _≤_, _<_}
 use native.Mathlib.Omega.{arith}
 use lib.Ieee.{Float}
 use lib.ListN.{length}
-use Rattle.rules.specs.Limits.{text-bytes, knob-limit}
+use Rattle.rules.specs.Limits.{text-bytes}
 use Rattle.rules.specs.Knob.{Good}
 use Rattle.rules.specs.Refusals.{short-text, bad-pitch}
-use Rattle.rules.specs.Millimetres.{word-32, word-64, Root, FigureWord, Lettered, FigureOf, TextOf, centre-under}
+use Rattle.rules.specs.Millimetres.{word-32, word-64, Root, FigureWord, Lettered, FigureOf, TextOf}
 use Rattle.rules.proofs.Knob.{pitch-passes, pitch-good}
 use Rattle.rules.proofs.Refusals.{holds-unless, text-bytes-passes, text-bytes-good}
 use Rattle.rules.proofs.Calls.{refused-call, made-call}
-
--- the square of a number that a knob can give is small
-pub square-to : {a : ℕ} → a ≤ knob-limit → a * a ≤ knob-limit * knob-limit
-square-to h = mul-le-mul h h
-
--- and so is its product with 16 times a u32: it is a u64
-pub under-fits : {d a : ℕ} → d < 2 ^ 32 → a ≤ knob-limit → centre-under d a < 2 ^ 64
-under-fits {d} {a} small h =
-    let sixteen : 16 * d ≤ 16 * 2 ^ 32 = omega arith in
-    let most : 16 * d * (a * a) ≤ 16 * 2 ^ 32 * (knob-limit * knob-limit) = mul-le-mul sixteen (square-to h) in
-    omega arith
 
 -- a pitch that is good for no number is refused
 shut : (pitch : Float) → ((k : ℕ) → Good (word-32 pitch) k → ⊥) → bad-pitch (word-32 pitch) ≡ true

@@ -10,7 +10,7 @@ use Rattle.rules.specs.Millimetres.{Root}
 use Rattle.root.specs.Between.{Between}
 
 module _ {x n digit : ℕ} (b : Between x n (2 * digit)) where
-  -- the square of a half's beginning is a u64
+  -- the square of the upper half's beginning is a u64
   pub square-fits : 0 < digit → (n + digit) * (n + digit) < 2 ^ 64
   square-fits some =
       let top : n + digit ≤ 2 ^ 32 - 1 = omega (arith, b .small) in
@@ -39,7 +39,7 @@ halving-all h =
     record { k = 32; digit-is = refl; between = record { from = omega arith; to = omega arith; small = omega arith } }
 
 module _ {x n digit : ℕ} (H : Halving x n digit) where
-  -- while a digit is left, the width is twice that digit, and the next one is half of it
+  -- while a digit is left, it is a power of two, and the width is twice that digit
   next : 0 < digit → (j : ℕ) × (digit ≡ 2 ^ j) × Between x n (2 * digit)
   next some = go (H .k) (H .digit-is) (H .between)
     where

@@ -29,15 +29,6 @@ stored l j v h =
     drop-cons (set l j v) j 0 (lt-length-set l j v h)
     ∙ rw (getD-set-same l j v 0 h, drop-set-lt (suc j) l j v (omega arith), add-one j)
 
--- a number below 10 is one digit
-pub one-digit : (most rest : ℕ) (after : List ℕ) → rest < 10 → digits (suc most) rest after ≡ (48 + rest) ∷ after
-one-digit most rest after h = rw (lt-ltb rest 10 h)
-
--- another has its last digit behind those of its tenth
-pub more-digits : (most rest : ℕ) (after : List ℕ) → 10 ≤ rest
-    → digits (suc most) rest after ≡ digits most (rest / 10) ((48 + rest % 10) ∷ after)
-more-digits most rest after h = rw (le-ltb rest 10 h)
-
 -- digits in front of some bytes are the digits, and then the bytes
 pub digits-before : (most n : ℕ) (first after : List ℕ) → digits most n (first ++ after) ≡ digits most n first ++ after
 digits-before zero n first after = refl
@@ -137,7 +128,7 @@ decimal-last n after =
 pub decimal-some : (n : ℕ) → 1 ≤ length (decimal n)
 decimal-some n = omega (arith, decimal-count n, some-count 9 n)
 
--- and no more than its powers of ten
+-- and at most k + 1 where it is below 10^(k + 1)
 pub decimal-most : (k : ℕ) {n : ℕ} → n < 10 ^ suc k → length (decimal n) ≤ suc k
 decimal-most k {n} small = omega (arith, decimal-count n, count-most 10 k n small)
 

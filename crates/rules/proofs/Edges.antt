@@ -1,19 +1,17 @@
 -- The rules say what documents 01 and 02 say at every edge of their rows. Of each edge there is a test that computes, and
 -- where the test passes the edge holds; the tests of all edges pass.
 --
--- Two numbers are compared. A value of a setting is tested for each m below 13: the word and m leave one k
--- (`good-is`), so there is no need to try every k as row 8 does (`quick`). Assumes nothing.
+-- Two numbers are compared, and a root is squared. A value of a setting, or a pitch by itself, is tested for each m below
+-- 13: the word and m leave one k (`good-is`), so there is no need to try every k as row 8 does (`quick`). Assumes nothing.
 use mathlib.Core.Path.{_≡_, refl, sym, _∙_, ap}
-use mathlib.Core.Logic.{by-cases}
 use mathlib.Core.Bool.{Bool, true, false, not, _&&_, _||_}
 use mathlib.Core.List.{List, [], _∷_}
 use Prim.Native.Nat.{ℕ, _+_, _-_, _*_, _/_, _^_, _<_}
-use native.Mathlib.Decide.{decLe}
 use native.Mathlib.Omega.{arith}
 use lib.Dec.{T, leb, ltb, eqb}
 use lib.Ieee.{toBits, size}
 use lib.Ieee.Bits.{is-true}
-use lib.Pow.{pow-mono, shl-shr}
+use lib.Pow.{shl-shr}
 use mir.Facts.{leb-yes, ltb-yes, eqb-yes, yes-eqb}
 use borrow.Author.Tests.{le-leb, lt-ltb}
 use Rattle.rules.specs.declared.Setting.{Setting}
@@ -28,6 +26,7 @@ use Rattle.rules.specs.Millimetres.{word-32}
 use Rattle.rules.specs.Edges.{Edge, number, call, opening, no-opening, good-pitch, no-pitch, whole-root, setting}
 use Rattle.rules.specs.Edges.{EdgeHolds, Met, edges}
 use Rattle.rules.proofs.Knob.{some-means, some-holds, good-value-means, good-value-holds, pitch-good, opened-good}
+use Rattle.rules.proofs.FloatWord.{exponent-below}
 use Rattle.rules.proofs.Calls.{made-call}
 use Rattle.rules.proofs.Samples.{parts}
 
@@ -87,8 +86,7 @@ found word = some 13 (λ m. fits word (k-of word m) m)
 found-holds : {word k : ℕ} → Good word k → T (found word)
 found-holds {word} {k} g =
     let m = g .m in
-    let small : m < 13 =
-    by-cases (decLe 13 m) (λ l. absurd (omega (arith, pow-mono {i = 13} {j = m} l, g .power, g .to))) (λ l. omega arith) in
+    let small : m < 13 = exponent-below m 13 (g .power) (omega (arith, g .to)) in
     let fit : T (fits word k m) =
     rw (le-leb _ _ (g .from), le-leb _ _ (g .to), le-leb _ _ (g .power), lt-ltb _ _ (g .greatest)) (yes-eqb (g .word-is)) in
     some-holds 13 (λ m. fits word (k-of word m) m) small (rw (good-is g) fit)

@@ -5,7 +5,8 @@
 -- tested cell by cell and word by word, with the tests of the samples for a map word, a site and a lane. What a test
 -- compares is not written again but read from the rule (`_`, and implicit arguments): so a test follows a rule that is
 -- bent, and no longer passes. The column that a row line takes is that of its site word. What convinces of the lane are the
--- labels of two floods, given here. The whole numbers of a setting are those that its words leave (`k-of`). A
+-- labels of two floods, given here. The whole numbers of a setting are those that its words leave (`k-of`), and a root is
+-- found digit by digit before it is tested. A
 -- board of 64 by 64 is too large for these tests; the numbers of the bench file are shown by hand: it bores the one cell
 -- (0, 0), so that the word of (x, y) is x² + y². Assumes nothing.
 use mathlib.Core.Path.{_≡_, refl, sym}
@@ -372,8 +373,8 @@ figured {out} x =
     so (both rooted (worded (word-64 out) (root-of 32 0 x))) (λ t. record { n = root-of 32 0 x; root = t .0; figure = t .1 })
 
 -- a text tells it
-abbrev lettered : {before after : List ℕ} {count : ℕ} (x : ℕ) → Test (Spelled x before after count)
-lettered x =
+abbrev spelled : {before after : List ℕ} {count : ℕ} (x : ℕ) → Test (Spelled x before after count)
+spelled x =
     so (both rooted (both (same _ _) (same-list _ _)))
     (λ t. record {
       n = root-of 32 0 x;
@@ -415,7 +416,7 @@ figure labels wider (bench-call bytes r output) =
       },
     ))
 figure labels wider (millimetres-call d pitch r) = ends _ (millimetres-is _ _) nothing (told figured)
-figure labels wider (text-call d pitch before r after) = ends _ (text-is _ _ _) (same-list _ _) (told lettered)
+figure labels wider (text-call d pitch before r after) = ends _ (text-is _ _ _) (same-list _ _) (told spelled)
 
 -- all figures of a list
 abbrev all : (labels wider : List ℕ) (fs : List Figure) → Test (AllHold fs)

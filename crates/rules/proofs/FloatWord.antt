@@ -3,39 +3,39 @@
 -- In units of the format's smallest value, n/2^s is n·2^(low − s). With 2^m the greatest power of two not above n, these
 -- units have m + 1 + low − s binary digits, of which the format keeps prec: the leading one adds one to the exponent's
 -- field, and what is left of n fills the digits below it. The other way round, n/2^s is itself a value of the format
--- where n has no more digits than it keeps; and two values of one word are one. Assumes nothing.
+-- where n has no more digits than it keeps, and the product of n and 1/2^s comes to it; two values of one word are one.
+-- Assumes nothing.
 use mathlib.Core.Path.{_≡_, sym, ap, _∙_, subst}
 use mathlib.Core.Bool.{true, false, true≢false}
 use Prim.Native.Nat.{ℕ, suc, _+_, _-_, _*_, _/_, _^_, _≤_, _<_}
 use native.Mathlib.Nat.{le-trans, lt-of-lt-of-le, lt-of-not-le, not-le-of-lt}
-use native.Mathlib.Nat.{mul-assoc, mul-right-comm, mul-le-mul-right, mul-div-cancel}
+use native.Mathlib.Nat.{mul-one, one-mul, mul-assoc, mul-right-comm, mul-le-mul-right, mul-div-cancel}
 use native.Mathlib.Omega.{arith}
-use lib.IntN.{ℤ}
-use lib.Dec.{T, lit≤}
+use lib.IntN.{ℤ, pos}
+use lib.Dec.{T, lit<, lit≤}
 use lib.Pow.{pow-add, pow-mono, pow-pos, shl-lt, shl-shr}
-use lib.Ieee.{Float, nan, inf, fin, Format, binary32, binary64, prec, emax, low, toBits, ofBits, round, fits, up, down, size}
+use lib.Ieee.{Float, nan, inf, fin, Format, binary32, binary64, prec, emax, low, up, down, size}
+use lib.Ieee.{toBits, ofBits, ofInt, round, mul, fits}
 use lib.Ieee.Digits.{size-lt, size-le, size-reaches}
 use lib.Ieee.Fits.{down-pos}
 use lib.Ieee.Bits.{ofBits-toBits}
 use lib.Ieee.Exact.{HasValue, round-exact}
+use lib.Ieee.Back.{round-whole}
+use lib.Ieee.Positive.{positive-of-value, mul-at}
 
--- a number from 2^j on has more than j digits
-more-digits : (n j : ℕ) → 2 ^ j ≤ n → j < size n
-more-digits n j h = lt-of-not-le (λ few. not-le-of-lt (size-lt n) (le-trans (pow-mono few) h))
+-- a power of two that is not above a number below 2^p has an exponent below p
+pub exponent-below : {n : ℕ} (m p : ℕ) → 2 ^ m ≤ n → n < 2 ^ p → m < p
+exponent-below m p low top = lt-of-not-le (λ far. not-le-of-lt top (le-trans (pow-mono far) low))
 
 -- a number that is not 0 has a greatest power of two not above it
 pub leading : (n : ℕ) → 0 < n → (m : ℕ) × (2 ^ m ≤ n) × (n < 2 ^ (m + 1))
 leading n some =
     let z = size n in
-    let one : 0 < z = more-digits n 0 some in
+    let one : 0 < z = exponent-below 0 z some (size-lt n) in
     let next : z ≡ z - 1 + 1 = omega arith in
     (z - 1, size-reaches n (z - 1) (omega arith), subst (λ (t : ℕ). n < 2 ^ t) next (size-lt n))
 
--- and the power's exponent is below p where the number is below 2^p
-pub exponent-below : {n : ℕ} (m p : ℕ) → 2 ^ m ≤ n → n < 2 ^ p → m < p
-exponent-below m p low top = lt-of-not-le (λ far. not-le-of-lt top (le-trans (pow-mono far) low))
-
--- so a number has one such power
+-- and only one
 pub one-exponent : {n m m′ : ℕ} → 2 ^ m ≤ n → n < 2 ^ (m + 1) → 2 ^ m′ ≤ n → n < 2 ^ (m′ + 1) → m ≡ m′
 one-exponent {m = m} {m′} low top low′ top′ =
     omega (arith, exponent-below m (m′ + 1) low top′, exponent-below m′ (m + 1) low′ top)
@@ -45,7 +45,7 @@ digits : (n m t : ℕ) → 2 ^ m ≤ n → n < 2 ^ (m + 1) → size (n * 2 ^ t) 
 digits n m t low top =
     let most : size (n * 2 ^ t) ≤ m + 1 + t = size-le (n * 2 ^ t) (m + 1 + t) (shl-lt (m + 1) t top) in
     let least : m + t < size (n * 2 ^ t) =
-    more-digits (n * 2 ^ t) (m + t) (rw pow-add (mul-le-mul-right (2 ^ t) low)) in
+    exponent-below (m + t) (size (n * 2 ^ t)) (rw pow-add (mul-le-mul-right (2 ^ t) low)) (size-lt (n * 2 ^ t)) in
     omega arith
 
 -- a power of two in two parts
@@ -76,7 +76,7 @@ fraction-word f s n m = (m + (emax f - s)) * 2 ^ (prec f - 1) + (n - 2 ^ m) * 2 
 abbrev written : ℕ → ℕ → ℕ
 written p units = 0 + (size units - p) * 2 ^ (p - 1) + units / 2 ^ (size units - p)
 
--- for n·2^t, where t leaves the word of m + c
+-- for n·2^t, with t = c + p − 2: the exponent's field is m + c, and what is left of n stands below it
 word-written : (p c n m t : ℕ) → 2 ≤ p → 0 < c → m < p → t ≡ c + p - 2 → 2 ^ m ≤ n → n < 2 ^ (m + 1)
     → written p (n * 2 ^ t) ≡ (m + c) * 2 ^ (p - 1) + (n - 2 ^ m) * 2 ^ (p - 1 - m)
 word-written p c n m t two some few is low top =
@@ -121,6 +121,21 @@ fraction-exact f n s small few =
     reach : (f : Format) (j : ℕ) → j ≤ low f → prec f + j ≤ low f + suc (emax f)
     reach binary32 j h = omega arith
     reach binary64 j h = omega arith
+
+-- a whole number is a value of the format, where it has no more digits than the format keeps
+pub whole-exact : (f : Format) (n : ℕ) → n ≤ 2 ^ prec f → HasValue (ofInt f (pos n)) false n 1
+unfolding ofInt
+whole-exact f n few = round-whole f false n few
+
+-- and its product with 1/c is rounded once, to n/c
+pub part-of : (f : Format) (n c : ℕ) (part : Float) → 0 < n → 0 < c → n ≤ 2 ^ prec f → HasValue part false 1 c
+    → mul f (ofInt f (pos n)) part ≡ round f false n c
+part-of f n c part some some-c few is =
+    let x = ofInt f (pos n) in
+    let whole = whole-exact f n few in
+    mul-at f x part n 1 1 c (positive-of-value x n 1 whole some) (positive-of-value part 1 c is (lit< tt)) (lit< tt) some-c
+    whole is
+    ∙ ap (λ (k : ℕ). round f false k (1 * c)) (mul-one n) ∙ ap (λ (k : ℕ). round f false n k) (one-mul c)
 
 -- two values of a format that have one word are one
 pub one-value : (f : Format) (v x : Float) → fits f v ≡ true → fits f x ≡ true → toBits f v ≡ toBits f x → v ≡ x

@@ -1,9 +1,9 @@
 -- A good word and its whole number k fix each other. The part (k − 2^m)·2^(23−m) of a good word is below 2^23, since k
 -- is below twice 2^m; so the word over 2^23 tells m, and what is left of the word tells k. A k has one greatest power
 -- of two, so it has one word. The test of row 8 tries every k up to the limit and every m below 13, and 2^13 is above
--- the limit: it passes exactly where a word is good for some k, and a setting opens exactly where both words pass.
--- Assumes nothing.
-use mathlib.Core.Path.{_≡_, refl, ap, _∙_, subst}
+-- the limit: it passes exactly where a word is good for some k, so a pitch by itself opens exactly where its word passes,
+-- and a setting where both words do. Assumes nothing.
+use mathlib.Core.Path.{_≡_, refl, sym, ap, _∙_, subst}
 use mathlib.Core.Logic.{_↔_, _⊎_, inl, inr, ⊎-elim, by-cases}
 use mathlib.Core.Bool.{Bool, true, false, not, _&&_, _||_, true≢false}
 use Prim.Native.Nat.{ℕ, zero, suc, _+_, _-_, _*_, _/_, _^_, _≤_, _<_}
@@ -15,7 +15,7 @@ use lib.Pow.{pow-pos, pow-add, shl-lt, high}
 use lib.Ieee.Bits.{is-true}
 use lib.Ieee.Fits.{and-l, and-r}
 use mir.Facts.{or-yes}
-use borrow.Author.Tests.{le-leb, lt-ltb, eq-eqb}
+use borrow.Author.Tests.{not-false, le-leb, lt-ltb, eq-eqb}
 use Rattle.rules.specs.declared.Setting.{Setting}
 use Rattle.rules.specs.Limits.{knob-limit}
 use Rattle.rules.specs.Knob.{Good, good-word, pitch-word, radius-word}
@@ -50,11 +50,6 @@ pub good-word-unique : {word word′ k : ℕ} → Good word k → Good word′ k
 good-word-unique {word} {word′} {k} g g′ =
     let same : g .m ≡ g′ .m = one-exponent (g .power) (g .greatest) (g′ .power) (g′ .greatest) in
     cc (g .word-is, g′ .word-is)
-
--- where the test of a failure fails, the test passes
-not-false : (b : Bool) → not b ≡ false → T b
-not-false true e = tt
-not-false false e = absurd (true≢false e)
 
 -- where either of two tests passes, so does their disjunction
 yes-or : (a b : Bool) → T a ⊎ T b → T (a || b)
@@ -114,7 +109,7 @@ good-value-holds {word} {k} g =
 -- a pitch that is not refused is good for some a
 pub pitch-passes : (word : ℕ) → bad-pitch word ≡ false → (a : ℕ) × Good word a
 unfolding bad-pitch
-pitch-passes word e = good-value-means word (not-false (good-value word) e)
+pitch-passes word e = good-value-means word (subst T (sym (not-false (good-value word) e)) tt)
 
 -- a good pitch is not refused
 pub pitch-good : {word a : ℕ} → Good word a → bad-pitch word ≡ false

@@ -24,12 +24,13 @@ use Rattle.rules.specs.Limits.{knob-limit}
 use Rattle.rules.specs.BenchFile.{decimal}
 use Rattle.rules.specs.Millimetres.{word-64, Root, FigureWord, FigureValue, last-digits, millimetre-text}
 use Rattle.rules.specs.Millimetres.{read, Says, Figured, Spelled, centre-under}
+use Rattle.rules.proofs.Farthest.{square-most}
 use Rattle.rules.proofs.Digits.{last-all-digits, last-length, last-read, two-digits}
 use Rattle.rules.proofs.Digits.{decimal-some, decimal-most, decimal-digits, decimal-read}
 use Rattle.rules.proofs.FloatWord.{leading, exponent-below, one-exponent, word-of-value, fraction-exact, one-value}
 
 -- a smaller square has a smaller root
-pub root-below : (a b : ℕ) → a * a < b * b → a < b
+root-below : (a b : ℕ) → a * a < b * b → a < b
 root-below a b h =
     by-cases (decLt a b) (λ l. l)
     (λ far.
@@ -127,14 +128,22 @@ text-length n =
     let back : length (last-digits 8 tail []) ≡ 8 + 0 = last-length 8 tail [] in
     length-append (decimal (n / 256)) (46 ∷ last-digits 8 tail []) ∙ omega arith
 
--- A text is from 10 to 16 bytes long, whatever the distance: N is below 2^30.
+-- What stands under the root of a u32 and a good pitch is below 2^60, and N below 2^30.
+pub centre-small : {d a : ℕ} → d < 2 ^ 32 → a ≤ knob-limit → centre-under d a < 2 ^ 60
+centre-small {d} {a} word to =
+    let squares : a * a ≤ knob-limit * knob-limit = square-most a knob-limit to in
+    let sixteen : 16 * d ≤ 16 * (2 ^ 32 - 1) = omega arith in
+    let most : 16 * d * (a * a) ≤ 16 * (2 ^ 32 - 1) * (knob-limit * knob-limit) = mul-le-mul sixteen squares in
+    omega arith
+
+pub centre-root-small : {d a n : ℕ} → d < 2 ^ 32 → a ≤ knob-limit → Root (centre-under d a) n → n < 2 ^ 30
+centre-root-small {d} {a} word to root = root-small root (2 ^ 30) (omega (arith, centre-small {d = d} {a = a} word to))
+
+-- So a text is from 10 to 16 bytes long, whatever the distance.
 pub text-from-to : {d a n : ℕ} → d < 2 ^ 32 → a ≤ knob-limit → Root (centre-under d a) n
     → (10 ≤ length (millimetre-text n)) × (length (millimetre-text n) ≤ 16)
-text-from-to {d} {a} {n} any-word to root =
-    let squares : a * a ≤ knob-limit * knob-limit = mul-le-mul to to in
-    let sixteen : 16 * d ≤ 16 * (2 ^ 32 - 1) = omega arith in
-    let under : 16 * d * (a * a) ≤ 16 * (2 ^ 32 - 1) * (knob-limit * knob-limit) = mul-le-mul sixteen squares in
-    let small : n < 2 ^ 30 = root-small root (2 ^ 30) (omega arith) in
+text-from-to {d} {a} {n} word to root =
+    let small : n < 2 ^ 30 = centre-root-small {d = d} {a = a} word to root in
     let whole : n / 256 < 10 ^ 7 = omega arith in
     (omega (arith, text-length n, decimal-some (n / 256)), omega (arith, text-length n, decimal-most 6 whole))
 
@@ -154,7 +163,7 @@ one-number v n f small word = (
   in-hundred-millionths v n (figure-exactly v n f (omega arith) .0 word),
 )
 
--- A figure and a text that tell the root of one number say the same number, whichever root it is.
+-- A figure and a text that tell the root of one number say the same number, whatever stands under the root.
 pub told-alike : {x count : ℕ} {v : Float} {before after : List ℕ} → x < 2 ^ 64 → fits binary64 v ≡ true → Figured x v
     → Spelled x before after count → (h : ℕ) × Says (take count after) h × HasValue v false h (10 ^ 8)
 told-alike {x} {count} {v} {before} {after} word f p q =

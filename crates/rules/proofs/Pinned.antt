@@ -21,7 +21,7 @@ use native.Mathlib.Decide.{decLt, ℕ-discrete}
 use native.Mathlib.Omega.{arith}
 use lib.IntN.{ℤ}
 use lib.Ieee.{Float, binary64, fits}
-use lib.ListN.{length, getD, take, length-append}
+use lib.ListN.{length, getD, take}
 use lib.Seq.{ext-getD, getD-take, getD-drop}
 use Rattle.rules.specs.declared.Setting.{Setting}
 use Rattle.rules.specs.declared.OpeningAnswer.{OpeningAnswer}
@@ -35,7 +35,7 @@ use Rattle.rules.specs.declared.BenchAnswer.the-variants.{Read, Refused 
 use Rattle.rules.specs.declared.FigureAnswer.{FigureAnswer}
 use Rattle.rules.specs.declared.FigureAnswer.the-variants.{Millimetres, Refused as NoFigure}
 use Rattle.rules.specs.declared.TextAnswer.{TextAnswer}
-use Rattle.rules.specs.declared.TextAnswer.the-variants.{Written as TextIs, Refused as NotWritten}
+use Rattle.rules.specs.declared.TextAnswer.the-variants.{Written, Refused as NotWritten}
 use Rattle.rules.specs.Board.{cell}
 use Rattle.rules.specs.Measures.{chamfer-kind}
 use Rattle.rules.specs.Lane.{Lane}
@@ -54,7 +54,7 @@ use Rattle.rules.proofs.TieRule.{least-unique, map-site-unique, cost-ma
 use Rattle.rules.proofs.Changeover.{changeover-unique}
 use Rattle.rules.proofs.Knob.{good-k-unique, opened-unique}
 use Rattle.rules.proofs.FloatWord.{one-value}
-use Rattle.rules.proofs.Millimetres.{root-unique, figure-word-unique}
+use Rattle.rules.proofs.Millimetres.{root-unique, figure-word-unique, text-length}
 use Rattle.rules.proofs.BenchFile.{farthest-unique}
 use Rattle.rules.proofs.Lane.{best-unique-words}
 use Rattle.rules.proofs.Refusals.{clear-accepted}
@@ -305,14 +305,14 @@ bench-text-pinned p q =
 
 -- a root is told by one word of an f64
 figured-pinned : {x : ℕ} {v v′ : Float} → Figured x v → Figured x v′ → word-64 v ≡ word-64 v′
-figured-pinned {v′ = v′} p q =
+figured-pinned p q =
     let same : p .n ≡ q .n = root-unique (p .root) (q .root) in
     figure-word-unique (p .n) (p .figure) (rw same (q .figure))
 
 -- and by one text, one length and one list
-written-pinned : {x : ℕ} {before after after′ : List ℕ} {count count′ : ℕ} → Spelled x before after count
+spelled-pinned : {x : ℕ} {before after after′ : List ℕ} {count count′ : ℕ} → Spelled x before after count
     → Spelled x before after′ count′ → (count ≡ count′) × (after ≡ after′)
-written-pinned p q =
+spelled-pinned p q =
     let same : p .n ≡ q .n = root-unique (p .root) (q .root) in
     let count = p .text .count-is ∙ ap (λ n. length (millimetre-text n)) same ∙ sym (q .text .count-is) in
     (count, cc (p .text .after-is, q .text .after-is))
@@ -334,7 +334,7 @@ pub text-pinned : {under : ℕ → ℕ} {pitch : Float} {before after after′ :
     → TextOf under pitch before n count after → TextOf under pitch before n′ count′ after′
     → (n ≡ n′) × (after ≡ after′) × (n ≡ 0 → count ≡ count′)
 text-pinned p q =
-    let (same, one) = agreed p q (told-pinned (λ x. written-pinned)) in
+    let (same, one) = agreed p q (told-pinned (λ x. spelled-pinned)) in
     (same, settled same (p .refused) (q .refused) (λ z. one z .1), λ z. one z .0)
 
 -- the figure's entry has one answer. What it answers fits the format, as every f64 does (`fits`).
@@ -348,24 +348,20 @@ figure-answer-pinned (Millimetres v) NoFigure f f′ p q = absurd (omega (arith,
 figure-answer-pinned NoFigure (Millimetres v) f f′ p q = absurd (omega (arith, figure-pinned p q .0))
 figure-answer-pinned NoFigure NoFigure f f′ p q = refl
 
--- every text has a byte: its point
-point-there : (n : ℕ) → 1 ≤ length (millimetre-text n)
-point-there n = simp length-append (omega arith)
-
 -- a text that was written has a byte
 pub text-not-empty : {pitch : Float} {under : ℕ → ℕ} {before after : List ℕ}
     → Told pitch under (λ x. Spelled x before after 0) → ⊥
 text-not-empty t =
     let w = t .tells in
-    omega (arith, w .text .count-is, point-there (w .n))
+    omega (arith, w .text .count-is, text-length (w .n))
 
 -- the text's entry has one answer, and leaves the bytes in one way
 pub text-answer-pinned : {under : ℕ → ℕ} {pitch : Float} {before after after′ : List ℕ} (r r′ : TextAnswer)
     → TextOf under pitch before (text-number r) (text-count r) after
     → TextOf under pitch before (text-number r′) (text-count r′) after′ → (r ≡ r′) × (after ≡ after′)
-text-answer-pinned (TextIs count) (TextIs count′) p q =
-    let (same, after, one) = text-pinned p q in (ap TextIs (one refl), after)
-text-answer-pinned (TextIs count) (NotWritten n) p q = absurd (text-not-empty (q .done (sym (text-pinned p q .0))))
-text-answer-pinned (NotWritten n) (TextIs count) p q = absurd (text-not-empty (p .done (text-pinned p q .0)))
+text-answer-pinned (Written count) (Written count′) p q =
+    let (same, after, one) = text-pinned p q in (ap Written (one refl), after)
+text-answer-pinned (Written count) (NotWritten n) p q = absurd (text-not-empty (q .done (sym (text-pinned p q .0))))
+text-answer-pinned (NotWritten n) (Written count) p q = absurd (text-not-empty (p .done (text-pinned p q .0)))
 text-answer-pinned (NotWritten n) (NotWritten n′) p q =
     let (same, after, one) = text-pinned p q in (ap NotWritten same, after)

@@ -20,7 +20,7 @@ fn print_text(d: u32, pitch: f32, text: &mut [u8]) {
     }
 }
 
-// Whether the number is the one expected, or "refusal 8"
+// "the same number" where it is the one expected, "another number", or "refusal 8".
 fn print_figure(d: u32, pitch: f32, expected: f64) {
     match centre_figure(d, pitch) {
         FigureAnswer::Millimetres(figure) => {

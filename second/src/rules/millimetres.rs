@@ -1,5 +1,5 @@
-//! Millimetres on the screen: the value by the formula of 02 over whole numbers, and its text by long
-//! division.
+//! Millimetres on the screen: the value by the formula of 02 over whole numbers, and the eight digits of
+//! its text by long division.
 
 use super::knob::{good_word, whole};
 use super::limits::TEXT;
@@ -12,18 +12,18 @@ pub struct MillimetresCall {
     pub pitch: f32,
 }
 
-/// "The greatest whole number such that N² ≤ 16·d·a²": from where on this fails is found by halving.
+/// "The greatest whole number such that N² ≤ 16·d·a²": the root of floats is near, and from there it is
+/// looked for by steps of one.
 fn greatest(d: u32, a: u32) -> u128 {
     let bound = 16 * u128::from(d) * u128::from(a).pow(2);
-    let (mut holds, mut fails) = (0, bound + 1);
-    while fails - holds > 1 {
-        let middle = (holds + fails) / 2;
-        match middle * middle <= bound {
-            true => holds = middle,
-            false => fails = middle,
-        }
+    let mut n = (bound as f64).sqrt() as u128;
+    while n * n > bound {
+        n -= 1;
     }
-    holds
+    while (n + 1) * (n + 1) <= bound {
+        n += 1;
+    }
+    n
 }
 
 /// "For 0 the positive zero, else the f64 whose IEEE 754 word is
@@ -36,28 +36,14 @@ fn word(n: u128) -> u128 {
     (u128::from(m) + 1_015) * (1 << 52) + (n - (1 << m)) * (1 << (52 - m))
 }
 
-/// "Whole digits (no needless leading zero, `0` for none)".
-fn whole_digits(mut number: u128) -> Vec<u8> {
-    let mut digits = vec![];
-    while number > 0 || digits.is_empty() {
-        digits.insert(0, digit(number % 10));
-        number /= 10;
-    }
-    digits
-}
-
 /// Eight digits of the rest of a division by 256, which come out even: 256 divides 10^8.
 fn eight_digits(mut rest: u128) -> Vec<u8> {
     let mut digits = vec![];
     for _ in 0..8 {
-        digits.push(digit(10 * rest / 256));
+        digits.push(b'0' + (10 * rest / 256) as u8);
         rest = 10 * rest % 256;
     }
     digits
-}
-
-fn digit(number: u128) -> u8 {
-    b'0' + number as u8
 }
 
 impl MillimetresCall {
@@ -98,11 +84,12 @@ impl TextCall {
         tested(&[(4, self.lent < TEXT), (8, whole(self.value.pitch).is_none())])
     }
 
-    /// "Whole digits .., a point and eight digits".
+    /// "Whole digits (no needless leading zero, `0` for none), a point and eight digits".
     pub fn answer(&self) -> Result<Vec<u8>, u32> {
         self.refusal()?;
         let n = self.value.n()?;
-        Ok([whole_digits(n / 256), vec![b'.'], eight_digits(n % 256)].concat())
+        let whole = (n / 256).to_string().into_bytes();
+        Ok([whole, vec![b'.'], eight_digits(n % 256)].concat())
     }
 }
 

@@ -1,6 +1,6 @@
 //! Document 01 by the plainest methods, and what document 02 adds. Speed is no aim here: each cell of
 //! a map is held against every bore or cost, a setting against the paper's word for each whole number,
-//! a lane is found by joining cells from the widest down, a root by halving, digits by long division;
+//! a lane is found by joining cells from the widest down, a root by steps of one, digits by division;
 //! so that a reader can hold the two side by side.
 
 mod changeover;

@@ -1,7 +1,9 @@
 -- `millimetres::centre_root` meets its contract: with a pitch from the knob the product is at most 2^60. Assumes nothing.
 use native.Mathlib.Omega.{arith}
 use borrow.Author.Needs.{needs}
-use Rattle.millimetres.proofs.Telling.{square-to, under-fits}
+use Rattle.rules.specs.Limits.{knob-limit}
+use Rattle.rules.proofs.Farthest.{square-most}
+use Rattle.rules.proofs.Millimetres.{centre-small}
 use Rattle.millimetres.proofs.centre_root.Statement.{statement}
 use Rattle.millimetres.proofs.centre_root.Tie as tie
 
@@ -9,10 +11,10 @@ mul-root : tie.Need-mul-root
 mul-root c = search needs
 
 mul-root-2 : tie.Need-mul-root-2
-mul-root-2 c = omega (arith, square-to (c .pre))
+mul-root-2 c = omega (arith, square-most (c .args .a) knob-limit (c .pre))
 
 mul-root-3 : tie.Need-mul-root-3
-mul-root-3 c = omega (arith, under-fits {d = c .args .d} (omega arith) (c .pre))
+mul-root-3 c = omega (arith, centre-small {d = c .args .d} {a = c .args .a} (omega arith) (c .pre))
 
 root-requires : tie.Need-root-requires
 root-requires c κs = search needs

@@ -1,5 +1,5 @@
 //! What only the bare C functions show: that a refusal leaves the out-words alone, and that a slice
-//! writes them otherwise; that millimetres write nothing beside theirs; that a null pointer with the
+//! writes them otherwise; that millimetres write nothing beside their own; that a null pointer with the
 //! count 0 is taken; and what a kind that the wrapper's types rule out is answered.
 
 use crate::lent::rubbish;

@@ -147,6 +147,7 @@ fn good_pitches(run: &mut Run) {
     }
 }
 
+/// Half of a good pitch and double are mostly good as well, all else is bad.
 fn bad_pitches(run: &mut Run) {
     for k in 1..=KNOB {
         for word in next_to(good_word(k)) {
@@ -173,7 +174,7 @@ fn random(run: &mut Run) {
 }
 
 /// The last whole part of every number of digits and the first of the next, and the greatest, each
-/// with every rest that there is.
+/// with every rest that there is, but for N below 8, which the small distances have.
 fn digits(run: &mut Run) {
     let powers = (0..=6).map(|zeros| 10u32.pow(zeros));
     let wholes = powers.flat_map(|power| [power - 1, power]).chain([4_194_303]);

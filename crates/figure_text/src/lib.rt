@@ -7,9 +7,9 @@ ghost use Rattle.rules.specs.Limits.{text-bytes};
 ghost use Rattle.rules.specs.Millimetres.{Lettered};
 ghost use Rattle.figure_text.specs.Digits.{Placed};
 
-// A millimetre in 1/256 mm, and 1/256 in hundred-millionths.
+// A millimetre in 1/256 mm.
 const WHOLE: u32 = 256;
-
+// 1/256 mm in hundred-millionths of a millimetre.
 const PART: u32 = 390_625;
 // The digits after the point.
 const TAIL: usize = 8;

@@ -3,10 +3,11 @@
 -- is 1, the interval's beginning is the root. Assumes nothing.
 use mathlib.Core.Path.{_≡_, refl, ap, subst}
 use Prim.Native.Nat.{ℕ, zero, suc, _+_, _-_, _*_, _/_, _^_, _≤_, _<_}
-use native.Mathlib.Nat.{mul-le-mul, pow-suc}
+use native.Mathlib.Nat.{pow-suc}
 use native.Mathlib.Omega.{arith}
 use lib.Pow.{pow-pos}
 use Rattle.rules.specs.Millimetres.{Root}
+use Rattle.rules.proofs.Farthest.{square-most}
 use Rattle.root.specs.Between.{Between}
 
 module _ {x n digit : ℕ} (b : Between x n (2 * digit)) where
@@ -14,7 +15,7 @@ module _ {x n digit : ℕ} (b : Between x n (2 * digit)) where
   pub square-fits : 0 < digit → (n + digit) * (n + digit) < 2 ^ 64
   square-fits some =
       let top : n + digit ≤ 2 ^ 32 - 1 = omega (arith, b .small) in
-      let squares : (n + digit) * (n + digit) ≤ (2 ^ 32 - 1) * (2 ^ 32 - 1) = mul-le-mul top top in
+      let squares = square-most (n + digit) (2 ^ 32 - 1) top in
       omega arith
 
   -- the upper half

@@ -34,8 +34,7 @@ root-below : (a b : ℕ) → a * a < b * b → a < b
 root-below a b h =
     by-cases (decLt a b) (λ l. l)
     (λ far.
-    let no-less : b ≤ a = omega arith in
-    let squares : b * b ≤ a * a = mul-le-mul no-less no-less in
+    let squares : b * b ≤ a * a = square-most b a (omega arith) in
     absurd (omega arith))
 
 -- no whole number above the root has a square that is not above x
@@ -128,7 +127,7 @@ text-length n =
     let back : length (last-digits 8 tail []) ≡ 8 + 0 = last-length 8 tail [] in
     length-append (decimal (n / 256)) (46 ∷ last-digits 8 tail []) ∙ omega arith
 
--- What stands under the root of a u32 and a good pitch is below 2^60, and N below 2^30.
+-- What stands under the root of a u32 and a good pitch is below 2^60.
 pub centre-small : {d a : ℕ} → d < 2 ^ 32 → a ≤ knob-limit → centre-under d a < 2 ^ 60
 centre-small {d} {a} word to =
     let squares : a * a ≤ knob-limit * knob-limit = square-most a knob-limit to in
@@ -136,6 +135,7 @@ centre-small {d} {a} word to =
     let most : 16 * d * (a * a) ≤ 16 * (2 ^ 32 - 1) * (knob-limit * knob-limit) = mul-le-mul sixteen squares in
     omega arith
 
+-- So N is below 2^30.
 pub centre-root-small : {d a n : ℕ} → d < 2 ^ 32 → a ≤ knob-limit → Root (centre-under d a) n → n < 2 ^ 30
 centre-root-small {d} {a} word to root = root-small root (2 ^ 30) (omega (arith, centre-small {d = d} {a = a} word to))
 

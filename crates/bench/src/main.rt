@@ -1,4 +1,6 @@
 // The bench program: a bench file on standard input, its three numbers or its refusal on standard output.
+#![tactic(auto)]
+
 ghost use Rattle.std.specs.Prelude.{◌<◌, length};
 ghost use Rattle.io.specs.Counts.{IsPrefixLen};
 ghost use Rattle.rules.specs.Limits.{file_limit};

@@ -1,5 +1,7 @@
 // The bench file: the tests of its bytes in their order, the map of the picture that its records bore, and the three
 // numbers of its answer.
+#![tactic(auto)]
+
 ghost use Rattle.std.specs.Prelude.{◌<◌, length};
 ghost use Rattle.rules.specs.Answers.{bench_number, bench_sites, bench_farthest, bench_cell};
 ghost use Rattle.rules.specs.Calls.{BenchCall};

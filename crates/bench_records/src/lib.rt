@@ -1,5 +1,7 @@
 // The records of a bench file: 4 bytes each, the column and then the row of a bore, each a little-endian u16. The tests
 // of its bytes, and the picture that its records bore: all that reads the bytes, and nothing that knows of maps.
+#![tactic(auto)]
+
 ghost use Rattle.std.specs.Prelude.{◌+◌, ◌*◌, ◌<◌, ◌≡◌, false, length, get_or};
 ghost use Rattle.rules.specs.Limits.{bench_side};
 ghost use Rattle.rules.specs.BenchFile.{u16_of, off_board};

@@ -1,5 +1,7 @@
 // The tests of a board that more than one entry makes: rows of document 01's table. Each function is named as its rule and
 // answers whether its row holds.
+#![tactic(auto)]
+
 ghost use Rattle.std.specs.Prelude.{◌≤◌, ◌≡◌};
 ghost use Rattle.rules.specs.Limits.{side_limit};
 ghost use Rattle.rules.specs.Refusals.{any, bad_sides, bad_weights, scratch_words, bad_buffers, bad_byte, no_bore};

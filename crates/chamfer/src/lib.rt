@@ -1,4 +1,6 @@
 // Kind 3: the two scans of document 003, which make the map of least chamfer distances in place.
+#![tactic(auto)]
+
 mod scans;
 
 ghost use Rattle.std.specs.Prelude.{◌*◌, ◌≤◌, ◌≡◌, length};

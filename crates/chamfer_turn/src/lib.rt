@@ -1,5 +1,7 @@
 // What a cell takes from its neighbours, by the table of document 003: the turn of one cell, which both scans of kind 3
 // repeat. Which cells have their turn, and when, is not asked here.
+#![tactic(auto)]
+
 ghost use Rattle.std.specs.Prelude.{◌+◌, ◌≤◌, ◌<◌, ◌≡◌, nat_abs};
 ghost use Rattle.rules.specs.Limits.{side_limit};
 ghost use Rattle.rules.specs.Table.{weight};
@@ -8,7 +10,7 @@ ghost use Rattle.chamfer_turn.specs.Neighbours.{Ruled, Words, On, word, printed,
 use rules::Step;
 
 // A board of `w` columns and `h` rows, with the weights of a straight and of a slanted step.
-#[derive(Drop)]
+#[derive(Clone, Copy)]
 pub struct Board {
     pub w: usize,
     pub h: usize,

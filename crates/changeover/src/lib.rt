@@ -1,6 +1,8 @@
 // The public changeover: the tests of its columns and values, then the last place at which the left of two curves of kind 0
 // is no higher. The engine along a line goes by the same crossing and never needs one below zero; here that is an answer
 // too. Every accepted call copies the list of squares, for the two that it needs.
+#![tactic(auto)]
+
 ghost use Rattle.rules.specs.Answers.{changeover_number, changeover_at};
 ghost use Rattle.rules.specs.Calls.{ChangeoverCall};
 

@@ -1,5 +1,7 @@
 // The two sweeps over a band of columns, and the test of the band's bytes. A band is the columns a up to b, with a and
 // without b. Rows are taken one after the other, so that memory is read in order.
+#![tactic(auto)]
+
 ghost use Rattle.std.specs.Prelude.{◌*◌, ◌≤◌, ◌≡◌, length};
 ghost use Rattle.columns.specs.Bands.{Band, Swept, BadBand};
 

@@ -1,4 +1,6 @@
 // The lines of a cost picture: the engine along each column, and then along each row.
+#![tactic(auto)]
+
 ghost use Rattle.std.specs.Prelude.{◌*◌, ◌≡◌, length};
 ghost use Rattle.rules.specs.Limits.{side_limit};
 ghost use Rattle.rules.specs.Refusals.{scratch_words};

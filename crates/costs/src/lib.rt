@@ -1,4 +1,6 @@
 // The public cost entry: the refusals first, then the lines of the map.
+#![tactic(auto)]
+
 ghost use Rattle.std.specs.Prelude.{length};
 ghost use Rattle.rules.specs.Tie.{CostMapWord, CostMapSite};
 ghost use Rattle.rules.specs.Accepted.{CostAccepted};

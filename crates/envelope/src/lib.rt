@@ -1,6 +1,8 @@
 // The engine along a line. A line is a list of values, one a column; each column has a curve, and at each place the engine
 // names the column whose curve is lowest, the least column on a tie (document 002, scans 3 and 4). The work words hold the
 // stretches: the starts in the first n, the holders in the n after them, n being the length of the line.
+#![tactic(auto)]
+
 ghost use Rattle.std.specs.Prelude.{ℕ, ◌+◌, ◌≤◌, ◌<◌, ◌≡◌, leb, length, get_or};
 ghost use Rattle.gauge.specs.Line.{Wins, height_at};
 ghost use Rattle.envelope.specs.Stretches.{starts, holders, Given, Stretches, Kept, Against, Begins, Turn, Spreads, Spread};
@@ -9,7 +11,7 @@ use gauge::{Gauge, height, place};
 use rules::as_index;
 
 // What a turn leaves: how many stretches were kept when its column came, and how many there are now.
-#[derive(Drop)]
+#[derive(Clone, Copy)]
 pub struct Turned {
     pub kept: usize,
     pub count: usize,

@@ -1,4 +1,6 @@
 // A whole number of 1/256 mm as an f64.
+#![tactic(auto)]
+
 ghost use Rattle.rules.specs.Millimetres.{word_64, FigureWord};
 
 // 1/256: a power of two, so that nothing is lost. The whole number 0 is the positive zero as an f64, and stays it.

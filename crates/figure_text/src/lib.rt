@@ -1,4 +1,6 @@
 // A whole number of 1/256 mm as a text: whole digits, a point and eight digits, from the buffer's first byte on.
+#![tactic(auto)]
+
 ghost use Rattle.std.specs.Prelude.{◌+◌, ◌≤◌, ◌≡◌, length};
 ghost use Rattle.rules.specs.BenchFile.{decimal};
 ghost use Rattle.rules.specs.Limits.{text_bytes};

@@ -1,6 +1,8 @@
 // The gauge of a line, and what looks inside it: the height of a column's curve, and the place where a column stops
 // holding against one to its right. The engine and the rows ask here and do not go by the kind themselves, so that they
 // are written and proved once for all kinds. Squares are read from the list that is lent with the gauge.
+#![tactic(auto)]
+
 ghost use Rattle.std.specs.Prelude.{◌+◌, ◌≤◌, ◌<◌, ◌≡◌, length};
 ghost use Rattle.rules.specs.Limits.{side_limit, line_limit, lift_limit};
 ghost use Rattle.rules.specs.Board.{away};
@@ -14,7 +16,7 @@ use squares::square;
 pub mod crossing;
 
 // The measure of a line: a kind that has parts.
-#[derive(Drop)]
+#[derive(Clone, Copy)]
 pub struct Gauge {
     pub kind: u32,
 }

@@ -1,4 +1,6 @@
 // The knob: one value opened to its whole number, a setting opened to two of them, and the clear map.
+#![tactic(auto)]
+
 ghost use Rattle.std.specs.Prelude.{◌≡◌, ◌≤◌, length, to_bits};
 ghost use Rattle.std.specs.Float.{binary32};
 ghost use Rattle.rules.specs.Limits.{knob_limit};
@@ -19,7 +21,7 @@ const SCALE: f32 = 64.0;
 const BACK: f32 = 0.015625;
 
 // One value of a setting, opened: the whole number that it is good for, or bad.
-#[derive(Drop)]
+#[derive(Clone, Copy)]
 pub enum Value {
     Whole(u32),
     Bad,

@@ -1,4 +1,6 @@
 // The lane entry: the refusals first, then the kind 0 map, and the best lane over the map's words.
+#![tactic(auto)]
+
 ghost use Rattle.std.specs.Prelude.{length};
 ghost use Rattle.rules.specs.Accepted.{LaneAccepted};
 ghost use Rattle.rules.specs.Answers.{lane_number, lane_width, lane_cells};

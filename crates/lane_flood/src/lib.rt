@@ -1,6 +1,8 @@
 // The flood from the far end of a lane over the cells that are wide enough: it tells whether some lane is as wide, and
 // its labels, 1 + the fewest steps of each cell that it reaches, lead a walk to the far end. Labels and a queue of cell
 // numbers, each as long as the board.
+#![tactic(auto)]
+
 ghost use Rattle.std.specs.Prelude.{◌+◌, ◌^◌, ◌<◌, ◌≡◌, length};
 ghost use Rattle.lane_flood.specs.Around.{Lists};
 ghost use Rattle.lane_flood.specs.Labelling.{at, Labels, Flow, Touched};

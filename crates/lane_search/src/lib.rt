@@ -1,5 +1,7 @@
 // The best lane over any list of words: the width by halving, with a flood for each width that is tried, and a walk
 // down the labels of a last flood. Whose words they are does not matter here.
+#![tactic(auto)]
+
 ghost use Rattle.std.specs.Prelude.{◌<◌, length};
 ghost use Rattle.lane_flood.specs.Around.{Lists};
 ghost use Rattle.lane_flood.specs.Labelling.{at};
@@ -15,7 +17,7 @@ mod walk;
 mod widths;
 
 // A lane: its width, and how many cells of it stand in the path.
-#[derive(Drop)]
+#[derive(Clone, Copy)]
 pub struct Course {
     pub width: u32,
     pub cells: u32,

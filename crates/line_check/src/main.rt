@@ -1,4 +1,6 @@
 // Random lines of kinds 0, 1 and 2 through the engine; each winner is held against a plain look at every column.
+#![tactic(auto)]
+
 ghost use Rattle.std.specs.Prelude.{◌+◌, ◌^◌, ◌≤◌, ◌<◌, ◌≡◌, length};
 ghost use Rattle.rules.specs.Limits.{side_limit};
 ghost use Rattle.rules.specs.Measures.{HasParts};
@@ -22,7 +24,7 @@ const LINES: u64 = 10_000;
 const LONGEST: usize = rules::SIDE_LIMIT as usize;
 
 // How many places were looked at, and how many of them had a wrong winner.
-#[derive(Drop)]
+#[derive(Clone, Copy)]
 struct Tally {
     places: u64,
     wrong: u64,

@@ -1,4 +1,6 @@
 // The public picture entry: the refusals first, then the map.
+#![tactic(auto)]
+
 ghost use Rattle.std.specs.Prelude.{ℕ, length};
 ghost use Rattle.rules.specs.Measures.{HasParts, chamfer_kind};
 ghost use Rattle.rules.specs.Accepted.{PictureAccepted};

@@ -1,4 +1,6 @@
 // Millimetres on the screen: a squared distance from centre to centre, as a number and as a text.
+#![tactic(auto)]
+
 ghost use Rattle.std.specs.Prelude.{◌≤◌};
 ghost use Rattle.rules.specs.Limits.{knob_limit};
 ghost use Rattle.rules.specs.Answers.{figure_number, figure_out, text_number, text_count};

@@ -1,6 +1,8 @@
 // The C functions of the static library. Each passes on to the entry that it wraps and has the same promise, by the same
 // call of the rules; where the entry answers an enum, the C function answers its number and writes its values, and a
 // refusal writes nothing (a slice's stop is none: it writes its values). `include/olavinthu.h` declares them.
+#![tactic(auto)]
+
 ghost use Rattle.rules.specs.Calls.{buffers, PictureCall, CostCall, LaneCall, ChangeoverCall, OpeningCall, ClearCall};
 ghost use Rattle.rules.specs.Millimetres.{FigureCall, TextCall};
 ghost use Rattle.olavinthu.specs.Out.{Out, SliceTold};

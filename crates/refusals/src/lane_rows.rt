@@ -3,7 +3,7 @@ ghost use Rattle.std.specs.Prelude.{◌≡◌};
 ghost use Rattle.rules.specs.Refusals.{answer, lane_rows};
 
 // What a lane call asks: the board's sides, and the cells that the lane joins.
-#[derive(Drop)]
+#[derive(Clone, Copy)]
 pub struct LaneAsked {
     pub w: u32,
     pub h: u32,

@@ -5,7 +5,7 @@ ghost use Rattle.rules.specs.Refusals.{answer, picture_rows};
 use rules::KIND_LIMIT;
 
 // What a picture call asks: the board's sides, the kind, and the weights, which only kind 3 reads.
-#[derive(Drop)]
+#[derive(Clone, Copy)]
 pub struct PictureAsked {
     pub w: u32,
     pub h: u32,

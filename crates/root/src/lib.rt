@@ -1,4 +1,6 @@
 // The whole root of a number, one binary digit after the other from the highest: 32 turns, whatever the number is.
+#![tactic(auto)]
+
 ghost use Rattle.std.specs.Prelude.{◌*◌, ◌<◌};
 ghost use Rattle.rules.specs.Millimetres.{Root};
 ghost use Rattle.root.specs.Between.{Between};

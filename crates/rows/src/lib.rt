@@ -1,6 +1,8 @@
 // The row line: what a row makes of its column words, whoever put them there. Fill turns the words into values; the engine
 // finds the winning column of each place; then the map words and the sites are written. What follows the fill is one
 // function, so that another fill can stand before it.
+#![tactic(auto)]
+
 ghost use Rattle.std.specs.Prelude.{ℕ, ◌^◌, ◌≤◌, ◌<◌, ◌≡◌, length, get_or};
 ghost use Rattle.rules.specs.Limits.{side_limit};
 ghost use Rattle.rules.specs.Board.{cell};

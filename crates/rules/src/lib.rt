@@ -1,5 +1,7 @@
 // The written rules of the board: the limits, and the types that settings and answers have. What the numbers mean is
 // in `specs/`, each definition under the sentence of document 01, or 02, that it renders.
+#![tactic(auto)]
+
 ghost use Rattle.std.specs.Prelude.{◌≡◌};
 ghost use Rattle.rules.specs.Limits.{Stated};
 
@@ -88,39 +90,39 @@ pub fn as_index(word: u32) -> usize
 
 // "A setting is two f32 values, pitch and radius, in millimetres."
 #[repr(C)]
-#[derive(Drop)]
+#[derive(Clone, Copy)]
 pub struct Setting {
     pub pitch: f32,
     pub radius: f32,
 }
 
 // One of the eight neighbours of document 003: row step, column step, and 1 for the weight d1 or 2 for d2.
-#[derive(Drop)]
+#[derive(Clone, Copy)]
 pub struct Step(pub i32, pub i32, pub u32);
 
 // The opening of a setting: the whole numbers of pitch and radius, or refusal 8.
-#[derive(Drop)]
+#[derive(Clone, Copy)]
 pub enum OpeningAnswer {
     Whole { a: u32, b: u32 },
     Refused,
 }
 
 // The changeover, or refusal 9.
-#[derive(Drop)]
+#[derive(Clone, Copy)]
 pub enum ChangeoverAnswer {
     At(i32),
     Refused,
 }
 
 // A lane's width and number of cells, or the refusal's number.
-#[derive(Drop)]
+#[derive(Clone, Copy)]
 pub enum LaneAnswer {
     Found { width: u32, cells: u32 },
     Refused(u32),
 }
 
 // The three numbers of a bench file, or the refusal's number.
-#[derive(Drop)]
+#[derive(Clone, Copy)]
 pub enum BenchAnswer {
     Read {
         sites: u32,
@@ -132,7 +134,7 @@ pub enum BenchAnswer {
 
 // A slice of a map: the number that stopped it, 0 for none, how many lines it finished, and the next line; or the number of
 // the refusal at its start.
-#[derive(Drop)]
+#[derive(Clone, Copy)]
 pub enum SliceAnswer {
     Worked {
         number: u32,
@@ -143,14 +145,14 @@ pub enum SliceAnswer {
 }
 
 // A distance in millimetres, or refusal 8.
-#[derive(Drop)]
+#[derive(Clone, Copy)]
 pub enum FigureAnswer {
     Millimetres(f64),
     Refused,
 }
 
 // How long the text of a distance in millimetres is, or the refusal's number.
-#[derive(Drop)]
+#[derive(Clone, Copy)]
 pub enum TextAnswer {
     Written(u32),
     Refused(u32),

@@ -16,7 +16,7 @@ const LINE: usize = 2_049;
 const LINE_SCRATCH: usize = 6_149;
 
 // What is asked of a picture.
-#[derive(Drop)]
+#[derive(Clone, Copy)]
 pub struct Question {
     pub w: u32,
     pub h: u32,
@@ -39,7 +39,7 @@ pub fn chamfer_board(w: u32, h: u32, d1: u32, d2: u32) -> Question {
 }
 
 // What is answered, and the words of one cell.
-#[derive(Drop)]
+#[derive(Clone, Copy)]
 struct Found {
     refusal: u32,
     distance: u32,

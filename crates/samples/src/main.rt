@@ -1,6 +1,8 @@
 // The samples of document 01, and of 02 as far as it is done, through the public entries, a line for each, and the limits
 // from both sides, but for the longest clear map, which has no room here. Every figure that is asked is the paper's own, in
 // digits: a limit that is wrong in the rules shows.
+#![tactic(auto)]
+
 use boards::{board, chamfer_board, show_003, show_answer, show_cell, show_largest};
 use changeovers::show_changeover;
 use cost_boards::show_costs;

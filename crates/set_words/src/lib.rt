@@ -1,4 +1,6 @@
 // Setting the words of a lent list to one value.
+#![tactic(auto)]
+
 ghost use Rattle.std.specs.Prelude.{ℕ, ◌≤◌, ◌<◌, ◌≡◌, length, get_or};
 ghost use Rattle.rules.specs.Calls.{Beyond};
 

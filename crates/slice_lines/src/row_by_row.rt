@@ -11,7 +11,7 @@ use rows::row_line;
 use rules::{MARK, SIDE_LIMIT};
 
 // How the row lines ended: the number that stopped them, 0 for none, and the row after the last that was done.
-#[derive(Drop)]
+#[derive(Clone, Copy)]
 pub struct RowEnd {
     pub number: u32,
     pub row: usize,

@@ -1,6 +1,8 @@
 // The public sliced entry: a map of kinds 0 to 2 by calls with a line number and a budget of lines. The lines are the
 // columns from the left, then the rows from the top. A call makes the tests of its start first; then it works, and where it
 // ends it sets the scratch words after the cells' words to zero.
+#![tactic(auto)]
+
 ghost use Rattle.std.specs.Prelude.{◌+◌, ◌-◌, ◌*◌, ◌≤◌, min, ◌≡◌, length};
 ghost use Rattle.rules.specs.Board.{Sides};
 ghost use Rattle.rules.specs.Measures.{HasParts};
@@ -21,7 +23,7 @@ use slice_lines::row_by_row::row_lines;
 use squares::list_of_squares;
 
 // What a slice call asks: the board's sides, the kind, the line that it begins at, and how many lines it may finish.
-#[derive(Drop)]
+#[derive(Clone, Copy)]
 struct SliceAsked {
     pub w: u32,
     pub h: u32,
@@ -31,7 +33,7 @@ struct SliceAsked {
 }
 
 // How the lines ended: the number that stopped them, 0 for none, and the next line.
-#[derive(Drop)]
+#[derive(Clone, Copy)]
 struct Ended {
     pub number: u32,
     pub next: usize,

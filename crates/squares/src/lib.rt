@@ -1,6 +1,8 @@
 // Squares of whole offsets, for a node that multiplies slowly: each is an entry of a fixed list (document 02, E2). A
 // constant list that a function reads is built anew at every call of that function. So a call that needs squares copies
 // the list once, past its tests, and lends the copy down to here.
+#![tactic(auto)]
+
 ghost use Rattle.std.specs.Prelude.{◌<◌, ◌≡◌, length, get_or};
 ghost use Rattle.squares.specs.List.{Squares};
 

@@ -22,8 +22,8 @@ fn stays(g: Gauge, squares: &[u32], values: &[u64], work: &[u32], k: usize, u: u
     requires { Given g squares.now values.now work.now × (u < length values.now) × (k < length values.now)
         × (starts work.now k < length values.now) × (holders (length values.now) work.now k < length values.now) }
     ensures { result ≡ leb
-        (height-at g values.now (holders (length values.now) work.now k) (starts work.now k))
-        (height-at g values.now u (starts work.now k)) }
+        (height_at g values.now (holders (length values.now) work.now k) (starts work.now k))
+        (height_at g values.now u (starts work.now k)) }
 {
     let n = values.len();
     let start = as_index(work[k]);
@@ -34,7 +34,7 @@ fn stays(g: Gauge, squares: &[u32], values: &[u64], work: &[u32], k: usize, u: u
 // How many of the m stretches are kept when column u comes: those that do not stay are taken off from the right.
 fn keep(g: Gauge, squares: &[u32], values: &[u64], work: &[u32], m: usize, u: usize) -> usize
     requires { Given g squares.now values.now work.now × (u < length values.now)
-        × Stretches (height-at g values.now) (length values.now) u m (starts work.now) (holders (length values.now) work.now) }
+        × Stretches (height_at g values.now) (length values.now) u m (starts work.now) (holders (length values.now) work.now) }
     ensures { Kept (height_at g values.now) u m (starts work.now)
         (holders (length values.now) work.now) result }
 {
@@ -52,7 +52,7 @@ fn keep(g: Gauge, squares: &[u32], values: &[u64], work: &[u32], m: usize, u: us
 // Where column u begins: at the first place if no stretch is kept, else where the last one kept stops holding.
 fn begin(g: Gauge, squares: &[u32], values: &[u64], work: &[u32], kept: usize, u: usize) -> usize
     requires { Given g squares.now values.now work.now × (u < length values.now) × (kept ≤ length values.now)
-        × Against (height-at g values.now) u (holders (length values.now) work.now) kept }
+        × Against (height_at g values.now) u (holders (length values.now) work.now) kept }
     ensures { Begins (height_at g values.now) (length values.now) u
         (holders (length values.now) work.now) kept result }
 {
@@ -67,7 +67,7 @@ fn begin(g: Gauge, squares: &[u32], values: &[u64], work: &[u32], kept: usize, u
 // One turn of scan 3, with column u.
 fn turn(g: Gauge, squares: &[u32], values: &[u64], work: &mut [u32], m: usize, u: usize) -> Turned
     requires { Given g squares.now values.now work.old × (u < length values.now)
-        × Stretches (height-at g values.now) (length values.now) u m (starts work.old) (holders (length values.now) work.old) }
+        × Stretches (height_at g values.now) (length values.now) u m (starts work.old) (holders (length values.now) work.old) }
     ensures { Turn (height_at g values.now) (length values.now) u m
         (starts work.old) (holders (length values.now) work.old)
         result.kept result.count
@@ -127,7 +127,7 @@ fn spread(work: &[u32], m: usize, winners: &mut [u32])
 pub fn winners_of(g: Gauge, squares: &[u32], values: &[u64], work: &mut [u32], winners: &mut [u32])
     requires { Given g squares.now values.now work.old × (length winners.old ≡ length values.now) }
     ensures { (x : ℕ) → x < length values.now
-        → Wins (height-at g values.now) (length values.now) x (get_or winners.new x 0) }
+        → Wins (height_at g values.now) (length values.now) x (get_or winners.new x 0) }
 {
     let m = build(g, squares, values, work);
     spread(work, m, winners);

@@ -112,7 +112,7 @@ fn last(g: Gauge, squares: &[u32], n: usize, i: usize, u: usize, a: u64, b: u64)
 // The place where column i, which holds the first place against u, stops holding; the line's length if it never does.
 pub fn place(g: Gauge, squares: &[u32], values: &[u64], i: usize, u: usize) -> usize
     requires { Gauged g squares.now values.now × (i < u) × (u < length values.now)
-        × (height-at g values.now i 0 ≤ height-at g values.now u 0) }
+        × (height_at g values.now i 0 ≤ height_at g values.now u 0) }
     ensures { Place (height_at g values.now) (length values.now) i u result }
 {
     let n = values.len();

@@ -56,7 +56,7 @@ pub fn widest(
 ) -> LaneAnswer
     ensures { LaneCall w h picture.now from to
         (buffers distances.old sites.old scratch.old) path.old
-        (lane-number result) (lane-width result) (lane-cells result)
+        (lane_number result) (lane_width result) (lane_cells result)
         (buffers distances.new sites.new scratch.new) path.new }
 {
     let a = LaneAsked { w, h, from, to };

@@ -28,7 +28,7 @@ fn value(g: Gauge, squares: &[u32], y: usize, word: u32) -> u64
 // Fill for pictures: the values of row y from its words.
 fn fill(g: Gauge, squares: &[u32], y: usize, words: &[u32], values: &mut [u64])
     requires { Measuring g squares.now × (y < side_limit) × (length values.old ≡ length words.now)
-        × ((i : ℕ) → i < length words.now → Named side-limit (get_or words.now i 0)) }
+        × ((i : ℕ) → i < length words.now → Named side_limit (get_or words.now i 0)) }
     ensures { Filled g y words.now values.new }
 {
     let mut i = 0;
@@ -41,7 +41,7 @@ fn fill(g: Gauge, squares: &[u32], y: usize, words: &[u32], values: &mut [u64])
 // The map word of place x, whose winner is i.
 fn map_word(g: Gauge, squares: &[u32], values: &[u64], i: usize, x: usize) -> u32
     requires { Gauged g squares.now values.now × (i < length values.now) × (x < length values.now)
-        × (height-at g values.now i x < 2 ^ 32) }
+        × (height_at g values.now i x < 2 ^ 32) }
     ensures { result ≡ height_at g values.now i x }
 {
     height(g, squares, values, i, x) as u32

@@ -139,7 +139,7 @@ fn lines_done(
     scratch: &mut [u32],
 ) -> Ended
     requires { HasParts kind × Sides w h × (line ≤ end) × (end ≤ w + h) × (length picture.now ≡ w * h)
-        × (w * h ≤ length distances.old) × (w * h ≤ length sites.old) × (scratch-words w h ≤ length scratch.old) }
+        × (w * h ≤ length distances.old) × (w * h ≤ length sites.old) × (scratch_words w h ≤ length scratch.old) }
     ensures { LinesDone w h kind line end picture.now
         (buffers distances.old sites.old scratch.old) result.number result.next
         (buffers distances.new sites.new scratch.new) }
@@ -173,7 +173,7 @@ fn accepted_slice(
         (length sites.old) (length scratch.old) }
     ensures { (slice_start result ≡ 0) × SliceAfter a.w a.h a.kind a.line a.budget picture.now
         (buffers distances.old sites.old scratch.old)
-        (slice-number result) (slice-finished result) (slice-next result)
+        (slice_number result) (slice_finished result) (slice_next result)
         (buffers distances.new sites.new scratch.new) }
 {
     let w = a.w as usize;
@@ -207,7 +207,7 @@ pub fn slice(
 ) -> SliceAnswer
     ensures { SliceCall w h kind line budget picture.now
         (buffers distances.old sites.old scratch.old)
-        (slice-start result) (slice-number result) (slice-finished result) (slice-next result)
+        (slice_start result) (slice_number result) (slice_finished result) (slice_next result)
         (buffers distances.new sites.new scratch.new) }
 {
     let a = SliceAsked {

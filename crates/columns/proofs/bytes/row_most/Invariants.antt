@@ -1,0 +1,12 @@
+-- `columns::bytes::row_most` meets its contract. The loop's invariant: `most` is the greatest byte before column x. The
+-- measure is the number of columns left. Assumes nothing.
+use Prim.Native.Nat.{◌-◌}
+use native.Mathlib.Omega.{arith}
+use Rattle.columns.proofs.Testing.{Seeing, seeing_start, seeing_more, seeing_end}
+use Rattle.columns.proofs.bytes.row_most.Given as goal
+
+abbrev pub invariant-loop-x : goal.invariant-loop-x
+invariant-loop-x l = Seeing l.start l.a l.b l.picture l.most l.x
+
+abbrev pub decreases-loop-x : goal.decreases-loop-x
+decreases-loop-x l = l.b - l.x

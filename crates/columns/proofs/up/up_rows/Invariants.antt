@@ -1,0 +1,13 @@
+-- `columns::up::up_rows` meets its contract. The loop's invariant: the rows from y on are done, and row y begins at
+-- `start`. The measure is `start`. Assumes nothing.
+use native.Mathlib.Omega.{arith}
+use Rattle.columns.specs.Bands.{Band}
+use Rattle.columns.proofs.Raising.{Raising, last_inside, raising_start, row_over, two_rows_up, raising_more}
+use Rattle.columns.proofs.Raising.{raising_end}
+use Rattle.columns.proofs.up.up_rows.Given as goal
+
+abbrev pub invariant-loop-start : goal.invariant-loop-start
+invariant-loop-start l = Raising l.w l.h l.a l.b l.initial.words l.words l.start l.y
+
+abbrev pub decreases-loop-start : goal.decreases-loop-start
+decreases-loop-start l = l.start

@@ -1,0 +1,15 @@
+-- `knob::fill` meets its contract: a turn fills one more byte. The measure is how many are left. Assumes nothing.
+use Rattle.std.proofs.Common.{ℕ, ◌-◌, List, length, get_or, arith}
+use Rattle.rules.specs.Knob.{clear_byte}
+use Rattle.rules.proofs.Filling.{Filling, filling_none, filling_more}
+use Rattle.knob.proofs.fill.Given as goal
+
+-- the byte of place k
+abbrev pub byte_at : ℕ → ℕ → List ℕ → ℕ → ℕ
+byte_at a b squares k = clear_byte a b (get_or squares k 0)
+
+abbrev pub invariant-loop-i : goal.invariant-loop-i
+invariant-loop-i l = Filling (byte_at l.a l.b l.squares) l.initial.clear l.clear l.i
+
+abbrev pub decreases-loop-i : goal.decreases-loop-i
+decreases-loop-i l = length l.squares - l.i

@@ -1,18 +1,18 @@
 // Random lines of kinds 0, 1 and 2 through the engine; each winner is held against a plain look at every column.
 #![tactic(auto)]
 
-ghost use Rattle.std.specs.Prelude.{◌+◌, ◌^◌, ◌≤◌, ◌<◌, ◌≡◌, length};
+ghost use Rattle.std.specs.Prelude.{◌+◌, ◌^◌, ◌≤◌, ◌<◌, ◌≡◌, length, IfOk};
 ghost use Rattle.rules.specs.Limits.{side_limit};
 ghost use Rattle.rules.specs.Measures.{HasParts};
 ghost use Rattle.line_check.specs.Tallied.{Tallied};
 
 use envelope::winners_of;
 use gauge::Gauge;
-use libc::STDOUT_FILENO;
 use lines::{fill, some_length};
 use plain::wrong_places;
 use rules::MARK;
 use squares::list_of_squares;
+use std::io;
 
 mod lines;
 mod plain;
@@ -88,51 +88,42 @@ fn try_kind(kind: u32, lines: u64, seed: &mut u64) -> Tally
 }
 
 // "10000 lines, 500000 places, 0 wrong"
-fn print_tally(lines: u64, tally: Tally) {
-    io::print_decimal(STDOUT_FILENO, lines);
-    io::write_all(STDOUT_FILENO, b" lines, ");
-    io::print_decimal(STDOUT_FILENO, tally.places);
-    io::write_all(STDOUT_FILENO, b" places, ");
-    io::print_decimal(STDOUT_FILENO, tally.wrong);
-    io::write_all(STDOUT_FILENO, b" wrong");
+fn print_tally(rt: &impl Print, lines: u64, tally: Tally) -> io::Result<()> {
+    let places = tally.places;
+    let wrong = tally.wrong;
+    print!(rt; "{lines} lines, {places} places, {wrong} wrong")
 }
 
 // The lines of one kind, tried and printed.
-fn run_kind(kind: u32, lines: u64, seed: &mut u64) -> Tally
+fn run_kind(rt: &impl Print, kind: u32, lines: u64, seed: &mut u64) -> io::Result<Tally>
     requires { HasParts kind × (lines < 2 ^ 32) }
-    ensures { Tallied lines result.places result.wrong }
+    ensures { IfOk result (λ tally. Tallied lines tally.places tally.wrong) }
 {
     let tally = try_kind(kind, lines, seed);
-    io::write_all(STDOUT_FILENO, b"kind ");
-    io::print_decimal(STDOUT_FILENO, kind as u64);
-    io::write_all(STDOUT_FILENO, b": ");
-    print_tally(lines, tally);
-    io::write_all(STDOUT_FILENO, b"\n");
-    tally
+    print!(rt; "kind {kind}: ")?;
+    print_tally(rt, lines, tally)?;
+    println!(rt; "")?;
+    Ok(tally)
 }
 
 // On a line of equal values every column wins at its own place. Two of these winners are spoilt, so that a count that sees
 // nothing shows.
-fn show_spoilt() {
+fn show_spoilt(rt: &impl Print) -> io::Result<()> {
     let wrong = wrong_places(0, &[0, 0, 0, 0], &[0, 2, 2, 0]);
-    io::write_all(STDOUT_FILENO, b"a line with 2 winners spoilt: ");
-    io::print_decimal(STDOUT_FILENO, wrong);
-    io::write_all(STDOUT_FILENO, b" wrong\n");
+    println!(rt; "a line with 2 winners spoilt: {wrong} wrong")
 }
 
-fn main() {
+fn main(rt: HostRuntime) -> io::Result<()> {
     let mut seed = SEED;
-    let squared = run_kind(0, LINES, &mut seed);
-    let manhattan = run_kind(1, LINES, &mut seed);
-    let chessboard = run_kind(2, LINES, &mut seed);
+    let squared = run_kind(&rt, 0, LINES, &mut seed)?;
+    let manhattan = run_kind(&rt, 1, LINES, &mut seed)?;
+    let chessboard = run_kind(&rt, 2, LINES, &mut seed)?;
     let all = Tally {
         places: squared.places + manhattan.places + chessboard.places,
         wrong: squared.wrong + manhattan.wrong + chessboard.wrong,
     };
-    io::write_all(STDOUT_FILENO, b"all kinds: ");
-    print_tally(3 * LINES, all);
-    io::write_all(STDOUT_FILENO, b", seed ");
-    io::print_decimal(STDOUT_FILENO, SEED);
-    io::write_all(STDOUT_FILENO, b"\n");
-    show_spoilt();
+    print!(rt; "all kinds: ")?;
+    print_tally(&rt, 3 * LINES, all)?;
+    println!(rt; ", seed {SEED}")?;
+    show_spoilt(&rt)
 }

@@ -4,6 +4,7 @@ ghost use Rattle.std.specs.Prelude.{◌<◌};
 use crate::text::{print, print_number, print_refusal, print_rows, print_word};
 use maps::picture_map;
 use rules::MARK;
+use std::io;
 
 // The cells of the largest board here, 512 by 512. A board of 2,048 by 2,048 has no room on a stack; `examples/board.c` and
 // the second program run that.
@@ -83,44 +84,55 @@ fn look(question: Question, picture: &[u8], cell: usize) -> Found
 }
 
 // ", cell 1: distance 1, site 0"
-fn print_cell(cell: usize, distance: u32, site: u32) {
-    print(b", cell ");
-    print_number(cell as u64);
-    print(b": distance ");
-    print_word(distance);
-    print(b", site ");
-    print_word(site);
+fn print_cell(rt: &impl Print, cell: usize, distance: u32, site: u32) -> io::Result<()> {
+    print(rt, b", cell ")?;
+    print_number(rt, cell as u64)?;
+    print(rt, b": distance ")?;
+    print_word(rt, distance)?;
+    print(rt, b", site ")?;
+    print_word(rt, site)
 }
 
 // ": good" or ": refusal 3"
-fn print_answer(refusal: u32) {
-    print(b": ");
+fn print_answer(rt: &impl Print, refusal: u32) -> io::Result<()> {
+    print(rt, b": ")?;
     if refusal == 0 {
-        print(b"good");
+        print(rt, b"good")
     } else {
-        print_refusal(refusal);
+        print_refusal(rt, refusal)
     }
 }
 
 // A board, and one cell of its map.
-pub fn show_cell(name: &[u8], question: Question, picture: &[u8], cell: usize)
+pub fn show_cell(
+    rt: &impl Print,
+    name: &[u8],
+    question: Question,
+    picture: &[u8],
+    cell: usize,
+) -> io::Result<()>
     requires { cell < 2_049 }
 {
-    print(name);
+    print(rt, name)?;
     let found = look(question, picture, cell);
-    print_cell(cell, found.distance, found.site);
-    print(b"\n");
+    print_cell(rt, cell, found.distance, found.site)?;
+    print(rt, b"\n")
 }
 
 // A board, and whether its map is made.
-pub fn show_answer(name: &[u8], question: Question, picture: &[u8]) {
-    print(name);
-    print_answer(look(question, picture, 0).refusal);
-    print(b"\n");
+pub fn show_answer(
+    rt: &impl Print,
+    name: &[u8],
+    question: Question,
+    picture: &[u8],
+) -> io::Result<()> {
+    print(rt, name)?;
+    print_answer(rt, look(question, picture, 0).refusal)?;
+    print(rt, b"\n")
 }
 
 // The last cell of the largest board here.
-pub fn show_largest() {
+pub fn show_largest(rt: &impl Print) -> io::Result<()> {
     let mut picture = [0; CELLS];
     picture[0] = 1;
     let mut distances = [MARK; CELLS];
@@ -128,13 +140,13 @@ pub fn show_largest() {
     let mut scratch = [MARK; SCRATCH];
     let asked = board(512, 512, 0);
     map_of(asked, &picture, &mut distances, &mut sites, &mut scratch);
-    print(b"512 by 512, bore 0");
-    print_cell(262_143, distances[262_143], sites[262_143]);
-    print(b"\n");
+    print(rt, b"512 by 512, bore 0")?;
+    print_cell(rt, 262_143, distances[262_143], sites[262_143])?;
+    print(rt, b"\n")
 }
 
 // The whole map of document 003's picture.
-pub fn show_003() {
+pub fn show_003(rt: &impl Print) -> io::Result<()> {
     let mut picture = [0; 24];
     picture[6] = 1;
     picture[17] = 1;
@@ -143,7 +155,7 @@ pub fn show_003() {
     let mut scratch = [MARK; 44];
     let asked = chamfer_board(4, 6, 3, 4);
     map_of(asked, &picture, &mut distances, &mut sites, &mut scratch);
-    print(b"weights 3 and 4, 4 by 6, bores 6 and 17:");
-    print_rows(4, &distances);
-    print(b"\n");
+    print(rt, b"weights 3 and 4, 4 by 6, bores 6 and 17:")?;
+    print_rows(rt, 4, &distances)?;
+    print(rt, b"\n")
 }

@@ -2,23 +2,23 @@
 use crate::text::{print, print_refusal, print_rows};
 use costs::cost_map;
 use rules::MARK;
+use std::io;
 
 // A line of five costs, and its map.
-pub fn show_costs(name: &[u8], kind: u32, costs: &[u32]) {
+pub fn show_costs(rt: &impl Print, name: &[u8], kind: u32, costs: &[u32]) -> io::Result<()> {
     let mut distances = [MARK; 5];
     let mut sites = [MARK; 5];
     let mut scratch = [MARK; 17];
     let refusal = cost_map(5, 1, kind, costs, &mut distances, &mut sites, &mut scratch);
-    print(name);
+    print(rt, name)?;
     if refusal != 0 {
-        print(b": ");
-        print_refusal(refusal);
-        print(b"\n");
-        return;
+        print(rt, b": ")?;
+        print_refusal(rt, refusal)?;
+        return print(rt, b"\n");
     }
-    print(b":");
-    print_rows(5, &distances);
-    print(b", sites");
-    print_rows(5, &sites);
-    print(b"\n");
+    print(rt, b":")?;
+    print_rows(rt, 5, &distances)?;
+    print(rt, b", sites")?;
+    print_rows(rt, 5, &sites)?;
+    print(rt, b"\n")
 }

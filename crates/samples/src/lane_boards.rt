@@ -3,23 +3,32 @@
 use crate::text::{print, print_refusal, print_rows, print_word};
 use lane::widest;
 use rules::{LaneAnswer, MARK};
+use std::io;
 
 // ": width 1, cells 5" or ": refusal 7"
-fn print_lane(answer: LaneAnswer) {
-    print(b": ");
+fn print_lane(rt: &impl Print, answer: LaneAnswer) -> io::Result<()> {
+    print(rt, b": ")?;
     match answer {
         LaneAnswer::Found { width, cells } => {
-            print(b"width ");
-            print_word(width);
-            print(b", cells ");
-            print_word(cells);
+            print(rt, b"width ")?;
+            print_word(rt, width)?;
+            print(rt, b", cells ")?;
+            print_word(rt, cells)
         }
-        LaneAnswer::Refused(number) => print_refusal(number),
+        LaneAnswer::Refused(number) => print_refusal(rt, number),
     }
 }
 
 // A board of at most nine cells, and the lane between two of them.
-pub fn show_lane(name: &[u8], w: u32, h: u32, picture: &[u8], from: u32, to: u32) {
+pub fn show_lane(
+    rt: &impl Print,
+    name: &[u8],
+    w: u32,
+    h: u32,
+    picture: &[u8],
+    from: u32,
+    to: u32,
+) -> io::Result<()> {
     let mut distances = [MARK; 9];
     let mut sites = [MARK; 9];
     let mut scratch = [MARK; 21];
@@ -35,9 +44,9 @@ pub fn show_lane(name: &[u8], w: u32, h: u32, picture: &[u8], from: u32, to: u32
         &mut scratch,
         &mut path,
     );
-    print(name);
-    print_lane(answer);
-    print(b", path");
-    print_rows(9, &path);
-    print(b"\n");
+    print(rt, name)?;
+    print_lane(rt, answer)?;
+    print(rt, b", path")?;
+    print_rows(rt, 9, &path)?;
+    print(rt, b"\n")
 }

@@ -1,8 +1,6 @@
-use mathlib.Core.Path.{◌≡◌, sym}
-use mathlib.Core.Bool.{false}
-use Prim.Native.Nat.{ℕ, ◌-◌, ◌≤◌, ◌<◌}
+use mathlib.Core.Path.{sym}
 use native.Mathlib.Omega.{arith}
-use lib.ListN.{length, get_or}
+use lib.ListN.{get_or}
 use borrow.Author.Count.{below_more}
 use Rattle.rules.specs.Refusals.{bad_byte}
 use Rattle.rules.proofs.Refusals.{holds_unless, any_here, any_none, byte_passes, byte_good}

@@ -1,13 +1,10 @@
 -- `board_tests::bad_bytes` meets its contract. The loop's invariant: no byte before i is bad. The measure is what is left
 -- of the picture. Assumes nothing.
-use mathlib.Core.Path.{◌≡◌, sym}
+use mathlib.Core.Path.{◌≡◌}
 use mathlib.Core.Bool.{false}
 use Prim.Native.Nat.{ℕ, ◌-◌, ◌≤◌, ◌<◌}
-use native.Mathlib.Omega.{arith}
 use lib.ListN.{length, get_or}
-use borrow.Author.Count.{below_more}
 use Rattle.rules.specs.Refusals.{bad_byte}
-use Rattle.rules.proofs.Refusals.{holds_unless, any_here, any_none, byte_passes, byte_good}
 use Rattle.board_tests.proofs.bad_bytes.Given as goal
 
 abbrev pub invariant-loop-i : goal.invariant-loop-i

@@ -7,7 +7,6 @@ use Rattle.rules.specs.Limits.{weight_limit}
 use Rattle.rules.specs.Measures.{chamfer_kind}
 use Rattle.rules.specs.Refusals.{bad_weights}
 use Rattle.rules.proofs.Refusals.{holds_unless, weights_passes, weights_good}
-use borrow.Author.Rules.{rules}
 use Rattle.board_tests.proofs.bad_weights.Goals as goal
 
 pub returns-then-kind-ne-CHAMFER_KIND : goal.returns-then-kind-ne-CHAMFER_KIND

@@ -1,7 +1,5 @@
-use mathlib.Core.Path.{◌≡◌, sym}
-use Prim.Native.Nat.{ℕ, ◌-◌, ◌≤◌, ◌<◌}
+use mathlib.Core.Path.{sym}
 use native.Mathlib.Omega.{arith}
-use lib.ListN.{length, get_or}
 use borrow.Author.Count.{below_more}
 use Rattle.rules.specs.Refusals.{no_bore}
 use Rattle.rules.proofs.Refusals.{holds_unless, bore_passes, bore_good}

@@ -1,12 +1,8 @@
 -- `board_tests::no_bore` meets its contract. The loop's invariant: no byte before i is 1. The measure is what is left of the
 -- picture. Assumes nothing.
-use mathlib.Core.Path.{◌≡◌, sym}
+use mathlib.Core.Path.{◌≡◌}
 use Prim.Native.Nat.{ℕ, ◌-◌, ◌≤◌, ◌<◌}
-use native.Mathlib.Omega.{arith}
 use lib.ListN.{length, get_or}
-use borrow.Author.Count.{below_more}
-use Rattle.rules.specs.Refusals.{no_bore}
-use Rattle.rules.proofs.Refusals.{holds_unless, bore_passes, bore_good}
 use Rattle.board_tests.proofs.no_bore.Given as goal
 
 abbrev pub invariant-loop-i : goal.invariant-loop-i

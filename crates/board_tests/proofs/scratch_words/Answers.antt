@@ -1,6 +1,5 @@
 -- `board_tests::scratch_words` meets its contract: the sum is the rules' own, and a board has too few cells for it to be too
 -- large. Assumes nothing.
-use mathlib.Core.Path.{refl}
 use Prim.Native.Nat.{◌*◌, ◌≤◌}
 use native.Mathlib.Nat.{mul-le-mul}
 use native.Mathlib.Omega.{arith}

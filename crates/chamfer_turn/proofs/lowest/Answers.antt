@@ -1,9 +1,8 @@
-use Prim.Native.Nat.{◌-◌, ◌≤◌, ◌<◌}
+use Prim.Native.Nat.{◌<◌}
 use native.Mathlib.Nat.{le_refl, le_antisymm}
 use native.Mathlib.Omega.{arith}
 use lib.ListN.{length}
 use Rattle.rules.specs.Board.{cell}
-use Rattle.chamfer_turn.specs.Neighbours.{word, Lowest}
 use Rattle.chamfer_turn.proofs.Cells.{has_word}
 use Rattle.chamfer_turn.proofs.Taking.{own_word, one_more}
 use Rattle.chamfer_turn.proofs.lowest.Goals.{Start}

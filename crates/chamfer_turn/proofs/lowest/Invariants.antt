@@ -1,13 +1,7 @@
 -- `chamfer_turn::lowest` meets its contract. The loop's invariant: `best` is the least over the steps before `k`, which
 -- is none past the last. The measure is what is left of the steps. Assumes nothing.
-use Prim.Native.Nat.{◌-◌, ◌≤◌, ◌<◌}
-use native.Mathlib.Nat.{le_refl, le_antisymm}
-use native.Mathlib.Omega.{arith}
-use lib.ListN.{length}
-use Rattle.rules.specs.Board.{cell}
+use Prim.Native.Nat.{◌-◌, ◌≤◌}
 use Rattle.chamfer_turn.specs.Neighbours.{word, Lowest}
-use Rattle.chamfer_turn.proofs.Cells.{has_word}
-use Rattle.chamfer_turn.proofs.Taking.{own_word, one_more}
 use Rattle.chamfer_turn.proofs.lowest.Given as goal
 
 abbrev pub invariant-loop-k : goal.invariant-loop-k

@@ -1,6 +1,5 @@
 -- `chamfer_turn::weight_of` meets its contract: a choice that is neither 0 nor 1 is the slanted weight. Assumes nothing.
 use mathlib.Core.Path.{sym}
-use borrow.Author.Rules.{rules}
 use Rattle.chamfer_turn.proofs.Moves.{slanted_weight}
 use Rattle.chamfer_turn.proofs.weight_of.Goals as goal
 

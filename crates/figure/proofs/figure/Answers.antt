@@ -1,7 +1,6 @@
 -- `figure::figure` meets its contract: a u32 is below 2^53, and the constant is 1/256. Assumes nothing.
 use mathlib.Core.Path.{refl}
 use native.Mathlib.Omega.{arith}
-use borrow.Author.Rules.{rules}
 use lib.Ieee.{binary64, of_bits}
 use Rattle.figure.proofs.Scaling.{scaled}
 use Rattle.figure.proofs.figure.Goals as goal

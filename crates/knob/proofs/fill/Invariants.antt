@@ -1,7 +1,7 @@
 -- `knob::fill` meets its contract: a turn fills one more byte. The measure is how many are left. Assumes nothing.
-use Rattle.std.proofs.Common.{ℕ, ◌-◌, List, length, get_or, arith}
+use Rattle.std.proofs.Common.{ℕ, ◌-◌, List, length, get_or}
 use Rattle.rules.specs.Knob.{clear_byte}
-use Rattle.rules.proofs.Filling.{Filling, filling_none, filling_more}
+use Rattle.rules.proofs.Filling.{Filling}
 use Rattle.knob.proofs.fill.Given as goal
 
 -- the byte of place k

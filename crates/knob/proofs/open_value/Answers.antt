@@ -1,11 +1,11 @@
 -- `knob::open_value` meets its contract. A value that passes both tests may be cut, and the whole number so cut is one
 -- that a knob can give; if its 1/64 equals the value, the value is good for it. Each other way out refutes that the
 -- value is good: a good value passes both tests and comes back. Assumes nothing.
-use Rattle.std.proofs.Common.{sym, refl, subst, ⊎_elim, arith}
+use Rattle.std.proofs.Common.{sym, refl, subst, arith}
 use lib.Ieee.{of_bits}
 use Rattle.knob.proofs.Range.{Whole, top_whole, holds_whole, in_range, cut_asks, cut_whole}
 use Rattle.knob.proofs.Scaling.{came_back, not_below, not_above, not_lost}
-use Rattle.knob.proofs.open_value.Goals.{After-truncating_f32_to_u64-k}
+use Rattle.knob.proofs.open_value.Goals.{After-truncating_f32_to_u64-k, else-x-via-then-x+else-x-2, else-x-via-else-x}
 use Rattle.knob.proofs.open_value.Goals as goal
 
 -- the whole part of the scaled value is a number that a knob can give
@@ -44,4 +44,7 @@ pub returns-else-x : goal.returns-else-x
 unfolding of_bits
 returns-else-x c k g =
     let fits = c.well_formed.0.1 in
-    let h = c.else-x in ?
+    elim c.else-x.branch [
+      | else-x-via-then-x+else-x-2 w ↦ not_above _ _ fits (refl, refl) g w.if-x-2.false
+      | else-x-via-else-x w ↦ not_below _ _ fits (refl, refl) g _ w.if-x.false (refl, refl)
+    ]

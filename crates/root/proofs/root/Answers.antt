@@ -1,5 +1,5 @@
 use native.Mathlib.Omega.{arith}
-use Rattle.root.proofs.Rooting.{Halving, halving_all, halving_asks, halving_more, halving_fits, halving_done}
+use Rattle.root.proofs.Rooting.{halving_all, halving_asks, halving_more, halving_fits, halving_done}
 use Rattle.root.proofs.root.Goals as goal
 
 pub loop-digit-init : goal.loop-digit-init

@@ -1,7 +1,6 @@
 -- `root::root` meets its contract. The loop's invariant: the root is enclosed in an interval whose width is twice the
 -- next digit, or 1 when none is left. The measure is that digit. Assumes nothing.
-use native.Mathlib.Omega.{arith}
-use Rattle.root.proofs.Rooting.{Halving, halving_all, halving_asks, halving_more, halving_fits, halving_done}
+use Rattle.root.proofs.Rooting.{Halving}
 use Rattle.root.proofs.root.Given as goal
 
 abbrev pub invariant-loop-digit : goal.invariant-loop-digit

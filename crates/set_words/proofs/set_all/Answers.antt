@@ -1,8 +1,6 @@
 use mathlib.Core.Path.{refl}
-use Prim.Native.Nat.{◌-◌, ◌≤◌}
 use native.Mathlib.Omega.{arith}
-use lib.ListN.{length}
-use Rattle.rules.proofs.Filling.{Filling, filling_none, filling_more}
+use Rattle.rules.proofs.Filling.{filling_none, filling_more}
 use Rattle.set_words.proofs.set_all.Goals as goal
 
 pub loop-k-init : goal.loop-k-init

@@ -1,10 +1,8 @@
 -- `set_words::set_all` meets its contract. The loop's invariant: the words before k are set. The measure is what is left.
 -- Assumes nothing.
-use mathlib.Core.Path.{refl}
 use Prim.Native.Nat.{◌-◌, ◌≤◌}
-use native.Mathlib.Omega.{arith}
 use lib.ListN.{length}
-use Rattle.rules.proofs.Filling.{Filling, filling_none, filling_more}
+use Rattle.rules.proofs.Filling.{Filling}
 use Rattle.set_words.proofs.set_all.Given as goal
 
 abbrev pub invariant-loop-k : goal.invariant-loop-k

@@ -5,7 +5,6 @@ use native.Mathlib.Omega.{arith}
 use lib.ListN.{length, drop, get_or-append}
 use lib.Seq.{length-take-le}
 use Rattle.rules.proofs.Parts.{front_beyond}
-use borrow.Author.Rules.{rules}
 use Rattle.set_words.proofs.set_front.Goals.{After-set_all}
 use Rattle.set_words.proofs.set_front.Goals as goal
 

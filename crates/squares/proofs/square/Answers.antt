@@ -1,7 +1,5 @@
 -- `squares::square` meets its contract: the entry, in a wider word. Assumes nothing.
-use mathlib.Core.Path.{refl}
 use native.Mathlib.Omega.{arith}
-use borrow.Author.Rules.{rules}
 use Rattle.squares.proofs.square.Goals as goal
 
 pub bounds-squares-k : goal.bounds-squares-k

@@ -1,0 +1,21 @@
+-- `chamfer::scans::map_words` meets its contract: the words are bounded before the scans, and each scan brings more.
+-- Assumes nothing.
+use mathlib.Core.Path.{◌∙◌}
+use borrow.Author.Rules.{rules}
+use native.Mathlib.Omega.{arith}
+use Rattle.chamfer.proofs.Order.{forward_scan, backward_scan}
+use Rattle.chamfer.proofs.Beginning.{first_words, begun}
+use Rattle.chamfer.proofs.Bringing.{brought}
+use Rattle.chamfer.proofs.Ending.{mapped}
+use Rattle.chamfer.proofs.scans.map_words.Goals as goal
+
+pub forward-requires : goal.forward-requires
+forward-requires c = (c.requires.0, first_words c.begin.ensures (c.begin.auto.words ∙ c.requires.2))
+
+pub returns : goal.returns
+returns c =
+    let first = begun c.begin.ensures (c.begin.auto.words ∙ c.requires.2) c.requires.0 c.requires.3 in
+    let weights = c.requires.0.weights in
+    let second = brought forward_scan (omega arith) weights c.forward.ensures first in
+    let last = c.backward.ensures in
+    mapped (brought backward_scan (omega arith) weights last second) last.words.one_each c.requires.2

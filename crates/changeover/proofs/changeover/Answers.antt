@@ -12,9 +12,6 @@ use borrow.Author.Rules.{rules}
 use Rattle.changeover.proofs.changeover.Goals.{After-square, After-square-2, Else-b-gt-VALUE_LIMIT, Else-low-top}
 use Rattle.changeover.proofs.changeover.Goals as goal
 
-abbrev tested : After-square-2 → Else-b-gt-VALUE_LIMIT
-tested c =⟪Else-b-gt-VALUE_LIMIT⟫c.before.before.before.before.before
-
 -- past the four tests the inputs are good
 good : (c : Else-b-gt-VALUE_LIMIT) → let a = c.args in Comparable a.i a.u a.a a.b
 good c = omega arith
@@ -25,18 +22,20 @@ right c =
     let good' : let a = c.args in Comparable a.i a.u a.a a.b = omega arith in
     squared c.list_of_squares-squares.ensures (omega (arith, good'.column_to)) c.square.ensures
 
-left : (c : After-square-2) → let a = (at_start (tested c)).args in Square a.i c.square-2.result
-left c = squared c.list_of_squares-squares.ensures (omega (arith, good (tested c))) c.square-2.ensures
+left : (c : After-square-2) → let a = c.args in Square a.i c.square-2.result
+left c =
+    let good' : let a = c.args in Comparable a.i a.u a.a a.b = omega arith in
+    squared c.list_of_squares-squares.ensures (omega (arith, good')) c.square-2.ensures
 
 -- what is divided, in the squares' own terms
-rounded : (c : Else-low-top) → let x = (at_start (tested ⟪After-square-2⟫c.before)).args in
+rounded : (c : Else-low-top) → let x = c.args in
     (c.square-2.result + x.a - (c.square.result + x.b) + 2 * (x.u - x.i) - 1)
     / (2 * (x.u - x.i))
     ≡ (x.i * x.i + x.a - (x.u * x.u + x.b) + 2 * (x.u - x.i) - 1) / (2 * (x.u - x.i))
 rounded c =
     let right' : let a = c.args in Square a.u c.square.result = let good' : let a = c.args in Comparable a.i a.u a.a a.b = omega arith in squared c.list_of_squares-squares.ensures (omega (arith, good'.column_to)) c.square.ensures in
-    let left' : let a = (at_start (tested c)).args in Square a.i c.square-2.result = squared c.list_of_squares-squares.ensures (omega (arith, good (tested c))) c.square-2.ensures in
-    let x = (at_start (tested ⟪After-square-2⟫c.before)).args in
+    let left' : let a = c.args in Square a.i c.square-2.result = let good' : let a = c.args in Comparable a.i a.u a.a a.b = omega arith in squared c.list_of_squares-squares.ensures (omega (arith, good')) c.square-2.ensures in
+    let x = c.args in
     ap₂ (λ i u. (i + x.a - (u + x.b) + 2 * (x.u - x.i) - 1) / (2 * (x.u - x.i)))
     left'.0 right'.0
 
@@ -68,14 +67,14 @@ pub square-requires-2 : goal.square-requires-2
 square-requires-2 c = omega (arith, c.list_of_squares-squares.ensures.as_long, good (goal.at.square-requires-2 c).Else-b-gt-VALUE_LIMIT)
 
 pub overflow_add-low : goal.overflow_add-low
-overflow_add-low c = omega (arith, (left c).1, (good (tested c)).left_to)
+overflow_add-low c = omega (arith, (left c).1, (good (goal.at.overflow_add-low c).Else-b-gt-VALUE_LIMIT).left_to)
 
 pub slice_bounds-last_euclid-end : goal.slice_bounds-last_euclid-end
 slice_bounds-last_euclid-end c = sym c.list_of_squares-squares.ensures.as_long
 
 pub last_euclid-p-requires : goal.last_euclid-p-requires
 last_euclid-p-requires c =
-        let g = good (tested (goal.at.last_euclid-p-requires c).After-square-2) in (
+    let g = good (goal.at.last_euclid-p-requires c).Else-b-gt-VALUE_LIMIT in (
       c.list_of_squares-squares.ensures,
       g.left,
       omega (arith, g.column_to),
@@ -85,28 +84,28 @@ last_euclid-p-requires c =
     )
 
 pub overflow_cast-result : goal.overflow_cast-result
-overflow_cast-result c = record { sfits = up_small (good (tested (goal.at.overflow_cast-result c).After-square-2)) c.last_euclid-p.ensures }
+overflow_cast-result c = record { sfits = up_small (good (goal.at.overflow_cast-result c).Else-b-gt-VALUE_LIMIT) c.last_euclid-p.ensures }
 
 pub returns-then-low-top : goal.returns-then-low-top
 returns-then-low-top c =
-        let g = good (tested (goal.at.returns-then-low-top c).After-square-2) in
+    let g = good (goal.at.returns-then-low-top c).Else-b-gt-VALUE_LIMIT in
     rw (to_z_pos w32 c.last_euclid-p.result (up_small g c.last_euclid-p.ensures))
     (answered_up g (omega (arith, (left (goal.at.returns-then-low-top c).After-square-2).0, (right (goal.at.returns-then-low-top c).After-square).0)) c.last_euclid-p.ensures)
 
 pub overflow_add-below : goal.overflow_add-below
-overflow_add-below c = omega (arith, (left (goal.at.overflow_add-below c).After-square-2).1, good (tested (goal.at.overflow_add-below c).After-square-2))
+overflow_add-below c = omega (arith, (left (goal.at.overflow_add-below c).After-square-2).1, good (goal.at.overflow_add-below c).Else-b-gt-VALUE_LIMIT)
 
 pub overflow_cast-result-2 : goal.overflow_cast-result-2
-overflow_cast-result-2 c = record { sfits = down_small (good (tested (goal.at.overflow_cast-result-2 c).After-square-2)) (rounded c) }
+overflow_cast-result-2 c = record { sfits = down_small (good (goal.at.overflow_cast-result-2 c).Else-b-gt-VALUE_LIMIT) (rounded c) }
 
 pub overflow_sub-result : goal.overflow_sub-result
 overflow_sub-result c =
-    let h = down_small (good (tested (goal.at.overflow_sub-result c).After-square-2)) (rounded c) in
+    let h = down_small (good (goal.at.overflow_sub-result c).Else-b-gt-VALUE_LIMIT) (rounded c) in
     rw (to_z_pos w32 _ h) (below_fits _ h)
 
 pub returns : goal.returns
 returns c =
-    let g = good (tested (goal.at.returns c).After-square-2) in
+    let g = good (goal.at.returns c).Else-b-gt-VALUE_LIMIT in
     let h = down_small g (rounded c) in
     rw (to_z_pos w32 _ h, to_z-of_z w32 _ (below_fits _ h))
     (answered_down g (omega (arith, (left (goal.at.returns c).After-square-2).0, (right (goal.at.returns c).After-square).0)) (rounded c))

@@ -20,7 +20,7 @@ kept c =
 pub loop-low-init : goal.loop-low-init
 loop-low-init c =
     let p = c.requires in
-    (p.0, omega arith, omega (arith, c.lesser-high.type-inv), rw c.lesser-high.ensures (halving_begins p.1 p.2))
+    (p.0, omega arith, omega (arith, c.lesser-high.type_inv), rw c.lesser-high.ensures (halving_begins p.1 p.2))
 
 pub reaches-requires : goal.reaches-requires
 reaches-requires c =

@@ -1,0 +1,32 @@
+use Prim.Native.Nat.{◌-◌, ◌≤◌}
+use native.Mathlib.Omega.{arith}
+use lib.ListN.{length, get_or}
+use Rattle.rules.proofs.Filling.{Filling, filling_none, filling_more}
+use Rattle.cost_lines.specs.Lines.{column_value}
+use Rattle.cost_lines.proofs.row.fill.Goals as goal
+
+pub loop-i-init : goal.loop-i-init
+loop-i-init c = (filling_none, omega arith)
+
+pub column_value-requires : goal.column_value-requires
+column_value-requires c =
+    let p = c.requires in
+    (p.0, p.1, p.3 c.loop-i.i c.loop-i-test.true)
+
+pub bounds-values-i : goal.bounds-values-i
+bounds-values-i c = omega (arith, c.loop-i.invariant.0.as_long, c.requires.2)
+
+pub loop-i-preserved : goal.loop-i-preserved
+loop-i-preserved c = (
+  filling_more c.loop-i.invariant.0
+      (omega (arith, c.requires.2)) c.column_value.ensures,
+  omega arith,
+)
+
+pub shape_of-values : goal.shape_of-values
+shape_of-values c = c.loop-i.invariant.0.as_long
+
+pub returns : goal.returns
+returns c =
+    let i = c.loop-i.invariant in
+    record { each = λ k h. i.0.done k (omega arith) }

@@ -1,16 +1,13 @@
 -- After both scans every word is at least the closed form to some bore and at most the closed form to every bore, so it
--- is the map word. The scans work in the first words of the buffer and leave the rest. Assumes nothing.
+-- is the map word. Assumes nothing.
 use mathlib.Core.Path.{◌≡◌, sym, ◌∙◌}
-use mathlib.Core.List.{List, ◌++◌}
+use mathlib.Core.List.{List}
 use Prim.Native.Nat.{ℕ, ◌*◌, ◌≤◌}
 use native.Mathlib.Nat.{le_antisymm}
 use native.Mathlib.Omega.{arith}
-use lib.ListN.{length, drop, length-append, length-drop, drop_of_length-le, get_or-append}
-use lib.Seq.{drop_at}
-use Rattle.rules.specs.Board.{cell}
+use lib.ListN.{length, drop_of_length-le}
 use Rattle.rules.specs.Measures.{chamfer_kind}
 use Rattle.rules.specs.Tie.{MapWord}
-use Rattle.rules.proofs.Board.{cell_in}
 use Rattle.chamfer_turn.specs.declared.Board.{Board}
 use Rattle.chamfer_turn.specs.Neighbours.{On, word}
 use Rattle.chamfer.specs.Scans.{Scanned}
@@ -47,20 +44,4 @@ mapped {b} {before} {after} R e f =
       words = λ x y x_in y_in. map_word R (record { column_in = x_in; row_in = y_in });
       as_long = e ∙ sym f;
       untouched = drop_of_length-le after after_to ∙ sym (drop_of_length-le before before_to);
-    }
-
--- the map stands in the first words of the buffer
-pub scanned : {w h d1 d2 : ℕ} {picture front words : List ℕ} (before : List ℕ)
-    → Scanned w h d1 d2 picture front words
-    → length front ≡ w * h
-    → w * h ≤ length before
-    → Scanned w h d1 d2 picture before (words ++ drop (w * h) before)
-scanned {w} {h} {words} before S e l =
-    let n : length words ≡ w * h = S.as_long ∙ e in
-    record {
-      words = λ x y x_in y_in.
-          rw (get_or-append words (drop (w * h) before) 0 (cell w x y) (rw n (cell_in x_in y_in)))
-          (S.words x y x_in y_in);
-      as_long = simp (length-append, length-drop) (omega arith);
-      untouched = drop_at words (drop (w * h) before) (w * h) n;
     }

@@ -1,5 +1,5 @@
--- The events of a scan. No cell is settled; a turn settles one; the scan goes on from where it stands. A settled cell took
--- from neighbours that the scan did earlier, so no later turn changes a word that went into its own. Assumes nothing.
+-- The events of a scan. A turn settles a cell; the scan goes on from where it stands. A settled cell took from neighbours
+-- that the scan did earlier, so no later turn changes a word that went into its own. Assumes nothing.
 use mathlib.Core.Path.{◌≡◌, refl, ◌∙◌}
 use mathlib.Core.Logic.{inl, inr, ⊎_elim, by_cases}
 use mathlib.Core.List.{List}
@@ -14,16 +14,6 @@ use Rattle.chamfer_turn.specs.Neighbours.{Words, On, word, Neighbour, Lowest, Ce
 use Rattle.chamfer.specs.Scans.{half, whole, Settled}
 use Rattle.chamfer_turn.proofs.Cells.{each_word, words_after}
 use Rattle.chamfer.proofs.Order.{forward_scan, backward_scan, Before, earlier}
-
--- no cell is settled
-pub none_yet : {b : Board} {from to t u : ℕ} {words : List ℕ} → u ≤ t → Words b words → Settled b from to t u words words
-none_yet l W =
-    record {
-      words = W;
-      settled = λ x y on from_t to_u. absurd (omega arith);
-      kept_below = λ x y on m. refl;
-      kept_above = λ x y on m. refl;
-    }
 
 -- the ends by other names
 pub ends_at : {b : Board} {from to t t' u u' : ℕ} {before after : List ℕ}

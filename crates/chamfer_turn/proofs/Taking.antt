@@ -1,6 +1,6 @@
--- What a cell takes, step by step: its own word to begin with, and after each step the lesser of what it has and of
--- what that neighbour offers. A neighbour off the board offers nothing. Assumes nothing.
-use mathlib.Core.Path.{◌≡◌, refl, ◌∙◌}
+-- What a cell takes, step by step: after each step the lesser of what it has and of what that neighbour offers.
+-- Assumes nothing.
+use mathlib.Core.Path.{◌≡◌, ◌∙◌}
 use mathlib.Core.Logic.{inl, inr, ⊎_elim, by_cases}
 use mathlib.Core.List.{List}
 use Prim.Native.Nat.{ℕ, ◌+◌, ◌≤◌, ◌<◌}
@@ -22,22 +22,6 @@ module _ {b : Board} {x y k : ℕ} {s : Step} (is : s ≡ printed k) where
   same_row d n = d.only _ n.on_board.row_in (rw (← is) at n.leads.down)
 
   module _ (words : List ℕ) where
-    -- no neighbour by this step is on the board: it is passed over
-    passed : (best : ℕ) → ((x' y' : ℕ) → Neighbour b k x y x' y' → ⊥) → Lesser b words x y k best best
-    passed best off =
-        record { no_more = le_refl best; no_more_through = λ x' y' n. absurd (off x' y' n); made = inl refl }
-
-    -- because it leads to no column of the board
-    pub off_column : {column : ℕ} (best : ℕ)
-        → Moved x s.1 b.w column
-        → b.w ≤ column
-        → Lesser b words x y k best best
-    off_column best a l = passed best (λ x' y' n. omega (arith, n, same_column a n))
-
-    -- or to no row
-    pub off_row : {row : ℕ} (best : ℕ) → Moved y s.0 b.h row → b.h ≤ row → Lesser b words x y k best best
-    off_row best d l = passed best (λ x' y' n. omega (arith, n, same_row d n))
-
     module _ {column row through : ℕ} (a : Moved x s.1 b.w column) (d : Moved y s.0 b.h row)
         (there : On b column row) (e : through ≡ word b words column row + weight b.d1 b.d2 s.2) where
       -- the neighbour offers `through`
@@ -65,15 +49,7 @@ module _ {b : Board} {x y k : ℕ} {s : Step} (is : s ≡ printed k) where
                 });
           }
 
-      -- it offers no less: nothing changes
-      pub kept : {best : ℕ} → best ≤ through → Lesser b words x y k best best
-      kept {best} l = record { no_more = le_refl best; no_more_through = bounded l; made = inl refl }
-
 module _ {b : Board} {words : List ℕ} {x y from : ℕ} where
-  -- with no step yet a cell has its own word
-  pub own_word : {own : ℕ} → Lowest b words x y from from own own
-  own_word = record { no_more = le_refl _; no_more_through = λ k x' y' f t n. absurd (omega arith); made = inl refl }
-
   -- what is offered by some steps is offered by more
   wider : {from' to to' v : ℕ} → from ≤ from' → to ≤ to' → Offered b words x y from' to v
       → Offered b words x y from to' v

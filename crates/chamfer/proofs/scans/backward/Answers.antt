@@ -1,17 +1,10 @@
 use mathlib.Core.Path.{◌≡◌, refl, ap}
-use Prim.Native.Nat.{◌+◌, ◌-◌, ◌*◌, ◌≤◌}
+use Prim.Native.Nat.{◌+◌, ◌-◌, ◌*◌}
 use native.Mathlib.Nat.{le_antisymm, mul-le-mul_right}
 use native.Mathlib.Omega.{arith}
 use Rattle.rules.specs.Board.{cell}
-use Rattle.chamfer.specs.Scans.{half, whole, Settled}
-use Rattle.chamfer.proofs.Settling.{none_yet, ends_at, backward_on}
+use Rattle.chamfer.proofs.Settling.{ends_at, backward_on}
 use Rattle.chamfer.proofs.scans.backward.Goals as goal
-
-pub loop-y-init : goal.loop-y-init
-loop-y-init c = (omega arith, none_yet (omega arith) c.requires.1)
-
-pub backward_row-requires : goal.backward_row-requires
-backward_row-requires c = (c.requires.0, c.loop-y.invariant.1.words, omega arith)
 
 pub loop-y-preserved : goal.loop-y-preserved
 loop-y-preserved c =

@@ -1,12 +1,8 @@
 -- `chamfer::scans::backward` meets its contract. The loop's invariant: the rows from row `y` on are settled.
 -- The measure is `y`. Assumes nothing.
-use mathlib.Core.Path.{◌≡◌, refl, ap}
-use Prim.Native.Nat.{◌+◌, ◌-◌, ◌*◌, ◌≤◌}
-use native.Mathlib.Nat.{le_antisymm, mul-le-mul_right}
-use native.Mathlib.Omega.{arith}
+use Prim.Native.Nat.{◌*◌, ◌≤◌}
 use Rattle.rules.specs.Board.{cell}
 use Rattle.chamfer.specs.Scans.{half, whole, Settled}
-use Rattle.chamfer.proofs.Settling.{none_yet, ends_at, backward_on}
 use Rattle.chamfer.proofs.scans.backward.Given as goal
 
 abbrev pub invariant-loop-y : goal.invariant-loop-y

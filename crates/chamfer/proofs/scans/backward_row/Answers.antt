@@ -1,11 +1,10 @@
-use mathlib.Core.Path.{refl}
-use Prim.Native.Nat.{◌+◌, ◌-◌, ◌≤◌}
+use Prim.Native.Nat.{◌-◌}
 use native.Mathlib.Omega.{arith}
-use Rattle.rules.specs.Board.{cell}
-use Rattle.chamfer_turn.specs.Neighbours.{On}
-use Rattle.chamfer.specs.Scans.{half, whole, Settled}
+use borrow.Author.Rules.{rules}
+use Rattle.chamfer_turn.specs.Neighbours.{On, CellTurned}
+use Rattle.chamfer.specs.Scans.{half, whole}
 use Rattle.chamfer.proofs.Order.{backward_scan}
-use Rattle.chamfer.proofs.Settling.{none_yet, ends_at, one_turn, backward_on}
+use Rattle.chamfer.proofs.Settling.{one_turn, backward_on}
 use Rattle.chamfer.proofs.scans.backward_row.Goals.{In-loop-x}
 use Rattle.chamfer.proofs.scans.backward_row.Goals as goal
 
@@ -13,22 +12,11 @@ use Rattle.chamfer.proofs.scans.backward_row.Goals as goal
 here : (c : In-loop-x) → On c.args.b (c.loop-x.x - 1) c.args.y
 here c = record { column_in = omega (arith, c.loop-x.invariant.0); row_in = c.requires.2 }
 
-pub loop-x-init : goal.loop-x-init
-loop-x-init c = (omega arith, none_yet (omega arith) c.requires.1)
-
-pub relax-requires : goal.relax-requires
-relax-requires c = (c.requires.0, c.loop-x.invariant.1.words, here (goal.at.relax-requires c).In-loop-x, omega arith, omega arith)
-
 pub loop-x-preserved : goal.loop-x-preserved
 loop-x-preserved c =
     let inv = c.loop-x.invariant.1 in
-    let turned = c.relax.ensures in (
+    let turned : CellTurned c.args.b (c.loop-x.x - 1) c.args.y half whole c.loop-x.words c.relax.new.words = search rules in (
       omega arith,
       backward_on (omega arith) (omega arith) inv
           (one_turn backward_scan (omega arith) (omega arith) inv.words (here (goal.at.loop-x-preserved c).In-loop-x) turned),
     )
-
-pub returns : goal.returns
-returns c =
-    let i = c.loop-x.invariant in
-    ends_at i.1 (omega arith) refl

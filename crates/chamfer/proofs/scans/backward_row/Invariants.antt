@@ -1,13 +1,8 @@
 -- `chamfer::scans::backward_row` meets its contract. The loop's invariant: the cells of the row from column `x` on
 -- are settled. The measure is `x`. Assumes nothing.
-use mathlib.Core.Path.{refl}
-use Prim.Native.Nat.{◌+◌, ◌-◌, ◌≤◌}
-use native.Mathlib.Omega.{arith}
+use Prim.Native.Nat.{◌+◌, ◌≤◌}
 use Rattle.rules.specs.Board.{cell}
-use Rattle.chamfer_turn.specs.Neighbours.{On}
 use Rattle.chamfer.specs.Scans.{half, whole, Settled}
-use Rattle.chamfer.proofs.Order.{backward_scan}
-use Rattle.chamfer.proofs.Settling.{none_yet, ends_at, one_turn, backward_on}
 use Rattle.chamfer.proofs.scans.backward_row.Given as goal
 
 abbrev pub invariant-loop-x : goal.invariant-loop-x

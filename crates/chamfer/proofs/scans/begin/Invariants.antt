@@ -2,9 +2,8 @@
 -- The measure is what is left of the words. Assumes nothing.
 use mathlib.Core.List.{List}
 use Prim.Native.Nat.{ℕ, ◌-◌}
-use native.Mathlib.Omega.{arith}
 use lib.ListN.{length, get_or}
-use Rattle.rules.proofs.Filling.{Filling, filling_none, filling_more}
+use Rattle.rules.proofs.Filling.{Filling}
 use Rattle.chamfer.specs.Scans.{first_word}
 use Rattle.chamfer.proofs.scans.begin.Given as goal
 

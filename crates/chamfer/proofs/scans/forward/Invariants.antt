@@ -1,12 +1,8 @@
 -- `chamfer::scans::forward` meets its contract. The loop's invariant: the rows before row `y` are settled.
 -- The measure is what is left of the rows. Assumes nothing.
-use mathlib.Core.Path.{refl, ap}
-use Prim.Native.Nat.{◌-◌, ◌*◌, ◌≤◌}
-use native.Mathlib.Nat.{le_antisymm}
-use native.Mathlib.Omega.{arith}
+use Prim.Native.Nat.{◌-◌, ◌≤◌}
 use Rattle.rules.specs.Board.{cell}
 use Rattle.chamfer.specs.Scans.{half, Settled}
-use Rattle.chamfer.proofs.Settling.{none_yet, ends_at, forward_on}
 use Rattle.chamfer.proofs.scans.forward.Given as goal
 
 abbrev pub invariant-loop-y : goal.invariant-loop-y

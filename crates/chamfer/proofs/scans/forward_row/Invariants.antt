@@ -1,13 +1,8 @@
 -- `chamfer::scans::forward_row` meets its contract. The loop's invariant: the cells of the row before column `x`
 -- are settled. The measure is what is left of the row. Assumes nothing.
-use mathlib.Core.Path.{refl}
 use Prim.Native.Nat.{◌-◌, ◌≤◌}
-use native.Mathlib.Omega.{arith}
 use Rattle.rules.specs.Board.{cell}
-use Rattle.chamfer_turn.specs.Neighbours.{On}
 use Rattle.chamfer.specs.Scans.{half, Settled}
-use Rattle.chamfer.proofs.Order.{forward_scan}
-use Rattle.chamfer.proofs.Settling.{none_yet, ends_at, one_turn, forward_on}
 use Rattle.chamfer.proofs.scans.forward_row.Given as goal
 
 abbrev pub invariant-loop-x : goal.invariant-loop-x

@@ -1,16 +1,12 @@
 -- `chamfer::scans::map_words` meets its contract: the words are bounded before the scans, and each scan brings more.
 -- Assumes nothing.
 use mathlib.Core.Path.{◌∙◌}
-use borrow.Author.Rules.{rules}
 use native.Mathlib.Omega.{arith}
 use Rattle.chamfer.proofs.Order.{forward_scan, backward_scan}
-use Rattle.chamfer.proofs.Beginning.{first_words, begun}
+use Rattle.chamfer.proofs.Beginning.{begun}
 use Rattle.chamfer.proofs.Bringing.{brought}
 use Rattle.chamfer.proofs.Ending.{mapped}
 use Rattle.chamfer.proofs.scans.map_words.Goals as goal
-
-pub forward-requires : goal.forward-requires
-forward-requires c = (c.requires.0, first_words c.begin.ensures (c.begin.auto.words ∙ c.requires.2))
 
 pub returns : goal.returns
 returns c =

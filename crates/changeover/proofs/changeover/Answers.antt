@@ -8,7 +8,6 @@ use mir.ValLaws.{to_z_pos, to_z-of_z}
 use Rattle.rules.proofs.Refusals.{Comparable, changeover_passes}
 use Rattle.squares.proofs.Table.{Square, squared}
 use Rattle.changeover.proofs.Answers.{below_fits, refused, answered_up, up_small, answered_down, down_small}
-use borrow.Author.Rules.{rules}
 use Rattle.changeover.proofs.changeover.Goals.{After-square, After-square-2, Else-b-gt-VALUE_LIMIT, Else-low-top}
 use Rattle.changeover.proofs.changeover.Goals as goal
 

@@ -7,7 +7,6 @@ use native.Mathlib.Nat.{mul-le-mul_right}
 use native.Mathlib.Omega.{arith}
 use lib.ListN.{length, take, drop}
 use lib.Seq.{length-take-le, length_front}
-use borrow.Author.Rules.{rules}
 use Rattle.cost_lines.proofs.columns_and_rows.Goals.{After-all_columns, Start}
 use Rattle.cost_lines.proofs.columns_and_rows.Goals as goal
 

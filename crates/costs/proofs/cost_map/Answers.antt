@@ -3,7 +3,6 @@
 use mathlib.Core.Path.{refl, sym, ◌∙◌}
 use Rattle.rules.proofs.Refusals.{cost_accepted}
 use Rattle.rules.proofs.Calls.{refused_call, made_call}
-use borrow.Author.Rules.{rules}
 use Rattle.costs.proofs.cost_map.Goals as goal
 
 pub returns-then-refused-ne0 : goal.returns-then-refused-ne0

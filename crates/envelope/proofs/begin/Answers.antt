@@ -3,7 +3,6 @@ use Rattle.envelope.proofs.Stores.{begins_after}
 use mathlib.Core.Path.{◌≡◌}
 use Prim.Native.Nat.{◌+◌, ◌-◌}
 use native.Mathlib.Omega.{arith}
-use borrow.Author.Rules.{rules}
 use Rattle.envelope.proofs.begin.Goals as goal
 
 pub place-requires : goal.place-requires

@@ -1,11 +1,10 @@
 use mathlib.Core.Path.{◌≡◌, ◌∙◌, sym, subst}
-use Prim.Native.Nat.{◌-◌, ◌≤◌}
 use native.Mathlib.Nat.{le_refl, add-zero}
 use native.Mathlib.Omega.{arith}
 use lib.ListN.{length, set, length-set}
 use lib.Seq.{get_or-set_same, get_or-set_other}
 use Rattle.gauge.specs.Line.{height_at}
-use Rattle.envelope.specs.Stretches.{Given, Stretches, starts, holders}
+use Rattle.envelope.specs.Stretches.{Stretches, starts, holders}
 use Rattle.envelope.proofs.Turns.{one_stretch, turned}
 use Rattle.envelope.proofs.Stores.{initial}
 use Rattle.envelope.proofs.build.Goals as goal

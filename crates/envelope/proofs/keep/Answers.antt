@@ -2,11 +2,8 @@ use mathlib.Core.Path.{sym, ◌∙◌}
 use Prim.Native.Nat.{◌-◌, ◌<◌}
 use native.Mathlib.Omega.{arith}
 use borrow.Author.Tests.{leb-true, leb-false}
-use lib.ListN.{length}
-use Rattle.gauge.specs.Line.{height_at}
-use Rattle.envelope.specs.Stretches.{starts, holders}
 use Rattle.envelope.proofs.Turns.{holder_in}
-use Rattle.envelope.proofs.Taking.{Taken, none_taken, one_taken, rest_kept, none_kept}
+use Rattle.envelope.proofs.Taking.{none_taken, one_taken, rest_kept, none_kept}
 use Rattle.envelope.proofs.keep.Goals as goal
 
 pub loop-kept-init : goal.loop-kept-init

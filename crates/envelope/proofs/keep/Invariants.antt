@@ -1,14 +1,9 @@
 -- `envelope::keep` meets its contract. The loop's invariant: every stretch from `kept` on is to be taken off.
 -- The measure is `kept`. Assumes nothing.
-use mathlib.Core.Path.{sym, ◌∙◌}
-use Prim.Native.Nat.{◌-◌, ◌<◌}
-use native.Mathlib.Omega.{arith}
-use borrow.Author.Tests.{leb-true, leb-false}
 use lib.ListN.{length}
 use Rattle.gauge.specs.Line.{height_at}
 use Rattle.envelope.specs.Stretches.{starts, holders}
-use Rattle.envelope.proofs.Turns.{holder_in}
-use Rattle.envelope.proofs.Taking.{Taken, none_taken, one_taken, rest_kept, none_kept}
+use Rattle.envelope.proofs.Taking.{Taken}
 use Rattle.envelope.proofs.keep.Given as goal
 
 abbrev pub invariant-loop-kept : goal.invariant-loop-kept

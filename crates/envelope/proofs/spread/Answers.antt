@@ -2,7 +2,7 @@ use mathlib.Core.Path.{refl, sym, ◌∙◌}
 use Prim.Native.Nat.{◌≤◌}
 use native.Mathlib.Omega.{arith}
 use lib.ListN.{length}
-use Rattle.envelope.proofs.Spreading.{Spreading, spread_start, spread_start_of, spread_within, spread_end}
+use Rattle.envelope.proofs.Spreading.{spread_start, spread_start_of, spread_within, spread_end}
 use Rattle.envelope.proofs.spread.Goals.{In-loop-x}
 use Rattle.envelope.proofs.spread.Goals as goal
 

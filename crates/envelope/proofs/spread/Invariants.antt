@@ -1,10 +1,7 @@
 -- `envelope::spread` meets its contract. The loop's invariant: the places from x on have their holders, and the
 -- place before x lies in the last stretch left. The measure is x. Assumes nothing.
-use mathlib.Core.Path.{refl, sym, ◌∙◌}
-use Prim.Native.Nat.{◌≤◌}
-use native.Mathlib.Omega.{arith}
 use lib.ListN.{length}
-use Rattle.envelope.proofs.Spreading.{Spreading, spread_start, spread_start_of, spread_within, spread_end}
+use Rattle.envelope.proofs.Spreading.{Spreading}
 use Rattle.envelope.proofs.spread.Given as goal
 
 abbrev pub invariant-loop-x : goal.invariant-loop-x

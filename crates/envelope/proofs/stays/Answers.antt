@@ -3,7 +3,6 @@ use mathlib.Core.Path.{◌∙◌, ap, ap₂}
 use native.Mathlib.Omega.{arith}
 use lib.Dec.{leb}
 use Rattle.gauge.specs.Line.{height_at}
-use borrow.Author.Rules.{rules}
 use Rattle.envelope.proofs.stays.Goals as goal
 
 pub height-requires-2 : goal.height-requires-2

@@ -3,7 +3,6 @@ use native.Mathlib.Omega.{arith}
 use lib.ListN.{length-set}
 use Rattle.envelope.proofs.Turns.{against}
 use Rattle.envelope.proofs.Stores.{initial, turn_past, turn_begun}
-use borrow.Author.Rules.{rules}
 use Rattle.envelope.proofs.turn.Goals as goal
 
 pub begin-start-requires : goal.begin-start-requires

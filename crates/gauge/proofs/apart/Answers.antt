@@ -1,5 +1,4 @@
 -- `gauge::apart` meets its contract: the difference that is not 0. Assumes nothing.
-use borrow.Author.Rules.{rules}
 use native.Mathlib.Omega.{arith}
 use Rattle.rules.specs.Board.{away}
 use Rattle.gauge.proofs.apart.Goals as goal

@@ -4,7 +4,6 @@ use Prim.Native.Nat.{◌+◌}
 use native.Mathlib.Omega.{arith}
 use Rattle.squares.proofs.Table.{Square, squared}
 use Rattle.gauge.proofs.Places.{third_kind}
-use borrow.Author.Rules.{rules}
 use Rattle.gauge.proofs.combined.Goals.{After-square, Else-kind-eq1}
 use Rattle.gauge.proofs.combined.Goals as goal
 

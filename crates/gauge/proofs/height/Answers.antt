@@ -4,7 +4,6 @@ use native.Mathlib.Omega.{arith}
 use lib.ListN.{get_or}
 use Rattle.gauge.specs.Line.{measured, height_at}
 use Rattle.gauge.proofs.Places.{apart_below}
-use borrow.Author.Rules.{rules}
 use Rattle.gauge.proofs.height.Goals as goal
 
 pub combined-requires : goal.combined-requires

@@ -1,7 +1,6 @@
 -- `gauge::last_chessboard` meets its contract by the two laws of kind 2. Assumes nothing.
 use native.Mathlib.Omega.{arith}
 use Rattle.gauge.proofs.Places.{first_away, chessboard_left, chessboard_right}
-use borrow.Author.Rules.{rules}
 use Rattle.gauge.proofs.last_chessboard.Goals as goal
 
 pub returns-then-edge-middle : goal.returns-then-edge-middle

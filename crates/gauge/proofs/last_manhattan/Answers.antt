@@ -1,7 +1,6 @@
 -- `gauge::last_manhattan` meets its contract by the two laws of kind 1. Assumes nothing.
 use native.Mathlib.Omega.{arith}
 use Rattle.gauge.proofs.Places.{first_away, manhattan_everywhere, manhattan_last}
-use borrow.Author.Rules.{rules}
 use Rattle.gauge.proofs.last_manhattan.Goals as goal
 
 pub returns-then-right-a : goal.returns-then-right-a

@@ -1,6 +1,5 @@
 -- `gauge::lifted` meets its contract: the square in kind 0, and else the difference itself. Assumes nothing.
 use native.Mathlib.Omega.{arith}
-use borrow.Author.Rules.{rules}
 use Rattle.squares.proofs.Table.{squared}
 use Rattle.gauge.proofs.Places.{flat_lift}
 use Rattle.gauge.proofs.lifted.Goals as goal

@@ -4,7 +4,6 @@ use mathlib.Core.Logic.{inl, inr}
 use native.Mathlib.Omega.{arith}
 use Rattle.gauge.specs.Line.{height_at}
 use Rattle.gauge.proofs.Places.{place_of}
-use borrow.Author.Rules.{rules}
 use Rattle.gauge.proofs.place.Goals as goal
 
 pub last-p-requires : goal.last-p-requires

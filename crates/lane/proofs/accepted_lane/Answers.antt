@@ -6,7 +6,6 @@ use lib.ListN.{length}
 use lib.Seq.{length-take-le}
 use Rattle.rules.specs.Calls.{buffers, PictureAfter}
 use Rattle.lane.proofs.Calling.{map_accepted, words_room, scratch_room, askable, lane_after}
-use borrow.Author.Rules.{rules}
 use Rattle.lane.proofs.accepted_lane.Goals.{After-row_map}
 use Rattle.lane.proofs.accepted_lane.Goals as goal
 

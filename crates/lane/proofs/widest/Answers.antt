@@ -3,7 +3,6 @@
 use mathlib.Core.Path.{refl, ◌∙◌, sym}
 use Rattle.rules.proofs.Refusals.{lane_accepted}
 use Rattle.rules.proofs.Calls.{refused_call, made_call}
-use borrow.Author.Rules.{rules}
 use Rattle.lane.proofs.widest.Goals as goal
 
 pub returns-then-refused-ne0 : goal.returns-then-refused-ne0

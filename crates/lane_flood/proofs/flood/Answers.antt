@@ -4,7 +4,6 @@ use mathlib.Core.Path.{◌≡◌, ◌∙◌, subst}
 use native.Mathlib.Omega.{arith}
 use lib.ListN.{length, set, length-set}
 use lib.Seq.{get_or-set_same}
-use borrow.Author.Rules.{rules}
 use Rattle.lane_flood.specs.Labelling.{at, Labels}
 use Rattle.lane_flood.proofs.Flowing.{none_labelled}
 use Rattle.lane_flood.proofs.Touching.{begun}

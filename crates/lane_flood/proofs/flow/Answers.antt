@@ -1,9 +1,5 @@
 use mathlib.Core.Path.{◌∙◌, sym}
-use Prim.Native.Nat.{◌-◌}
 use native.Mathlib.Omega.{arith}
-use lib.ListN.{length}
-use Rattle.lane_flood.specs.Around.{Lists}
-use Rattle.lane_flood.specs.Labelling.{at, Flow}
 use Rattle.lane_flood.proofs.Around.{lists_kept}
 use Rattle.lane_flood.proofs.Flowing.{queue_few, from_origin, as_begun, flow_ends}
 use Rattle.lane_flood.proofs.flow.Goals as goal

@@ -1,13 +1,9 @@
 -- `lane_flood::flow` meets its contract. The loop's invariant: a flood under way. The measure is how many places of the
 -- queue are left for the head. Assumes nothing.
-use mathlib.Core.Path.{◌∙◌, sym}
 use Prim.Native.Nat.{◌-◌}
-use native.Mathlib.Omega.{arith}
 use lib.ListN.{length}
 use Rattle.lane_flood.specs.Around.{Lists}
 use Rattle.lane_flood.specs.Labelling.{at, Flow}
-use Rattle.lane_flood.proofs.Around.{lists_kept}
-use Rattle.lane_flood.proofs.Flowing.{queue_few, from_origin, as_begun, flow_ends}
 use Rattle.lane_flood.proofs.flow.Given as goal
 
 abbrev pub invariant-loop-head : goal.invariant-loop-head

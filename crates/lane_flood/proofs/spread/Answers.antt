@@ -1,10 +1,10 @@
 use mathlib.Core.Path.{refl, ◌∙◌, sym}
-use Prim.Native.Nat.{◌-◌, ◌≤◌, ◌<◌}
+use Prim.Native.Nat.{◌≤◌, ◌<◌}
 use native.Mathlib.Omega.{arith}
 use lib.ListN.{length}
 use Rattle.lane_flood.specs.Labelling.{at}
 use Rattle.lane_flood.proofs.Flowing.{queue_few, head_cell}
-use Rattle.lane_flood.proofs.Touching.{Spreading, none_touched, room, touched, spread_out}
+use Rattle.lane_flood.proofs.Touching.{none_touched, room, touched, spread_out}
 use Rattle.lane_flood.proofs.spread.Goals.{After-as_index-c}
 use Rattle.lane_flood.proofs.spread.Goals as goal
 

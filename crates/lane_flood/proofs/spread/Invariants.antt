@@ -1,12 +1,8 @@
 -- `lane_flood::spread` meets its contract. The loop's invariant: the sides before k have come up. The measure is how many of
 -- the four are left. Assumes nothing.
-use mathlib.Core.Path.{refl, ◌∙◌, sym}
-use Prim.Native.Nat.{◌-◌, ◌≤◌, ◌<◌}
-use native.Mathlib.Omega.{arith}
-use lib.ListN.{length}
+use Prim.Native.Nat.{◌-◌}
 use Rattle.lane_flood.specs.Labelling.{at}
-use Rattle.lane_flood.proofs.Flowing.{queue_few, head_cell}
-use Rattle.lane_flood.proofs.Touching.{Spreading, none_touched, room, touched, spread_out}
+use Rattle.lane_flood.proofs.Touching.{Spreading}
 use Rattle.lane_flood.proofs.spread.Given as goal
 
 abbrev pub invariant-loop-k : goal.invariant-loop-k

@@ -4,7 +4,6 @@ use mathlib.Core.Path.{refl}
 use Prim.Native.Nat.{◌<◌}
 use native.Mathlib.Omega.{arith}
 use lib.ListN.{length}
-use borrow.Author.Rules.{rules}
 use Rattle.lane_flood.specs.Labelling.{passed, entered}
 use Rattle.lane_flood.proofs.touch.Goals.{Else-labels-p-ne0}
 use Rattle.lane_flood.proofs.touch.Goals as goal

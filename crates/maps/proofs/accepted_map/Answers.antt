@@ -2,7 +2,6 @@
 use mathlib.Core.Path.{subst}
 use lib.ListN.{length}
 use Rattle.rules.specs.Accepted.{PictureAccepted}
-use borrow.Author.Rules.{rules}
 use Rattle.maps.proofs.accepted_map.Goals as goal
 
 pub scanned_map-requires : goal.scanned_map-requires

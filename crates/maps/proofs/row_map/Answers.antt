@@ -2,7 +2,6 @@
 use mathlib.Core.Path.{sym}
 use native.Mathlib.Omega.{arith}
 use Rattle.maps.proofs.After.{believable, rows_after}
-use borrow.Author.Rules.{rules}
 use Rattle.maps.proofs.row_map.Goals as goal
 
 pub slice_bounds-all_rows-end : goal.slice_bounds-all_rows-end

@@ -1,7 +1,6 @@
 -- `maps::scanned_map` meets its contract: the scans, the sites all marked, and the scratch set to zero. Assumes nothing.
 use mathlib.Core.Path.{refl}
 use Rattle.maps.proofs.After.{scans_after}
-use borrow.Author.Rules.{rules}
 use Rattle.maps.proofs.scanned_map.Goals as goal
 
 pub scan_map-requires : goal.scan_map-requires

@@ -1,8 +1,5 @@
-use Prim.Native.Nat.{◌-◌, ◌≤◌}
 use native.Mathlib.Omega.{arith}
-use lib.ListN.{length, get_or}
-use Rattle.rules.proofs.Filling.{Filling, filling_none, filling_more}
-use Rattle.rows.specs.Row.{value_of}
+use Rattle.rules.proofs.Filling.{filling_none, filling_more}
 use Rattle.rows.proofs.fill.Goals as goal
 
 pub loop-i-init : goal.loop-i-init

@@ -3,7 +3,6 @@
 use mathlib.Core.Path.{◌≡◌, ◌∙◌}
 use Prim.Native.Nat.{◌+◌, ◌-◌}
 use lib.ListN.{length}
-use borrow.Author.Rules.{rules}
 use borrow.Rule.Slice.PartMut.{put_mid, same_len_mid}
 use Rattle.rows.proofs.RowLine.{words_part, tail_length, words_stay, gauged, winners_fit, winners_chosen, line_out}
 use Rattle.rows.proofs.line_out.Goals.{After-winners_of}

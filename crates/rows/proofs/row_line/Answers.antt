@@ -2,7 +2,6 @@
 -- row of a picture. Assumes nothing.
 use mathlib.Core.Path.{◌∙◌, sym}
 use lib.ListN.{length}
-use borrow.Author.Rules.{rules}
 use Rattle.rows.specs.Row.{Believed, Filled}
 use Rattle.rows.proofs.RowLine.{words_part, words_length, words_named, line_read, row_made}
 use Rattle.rows.proofs.row_line.Goals.{After-fill}

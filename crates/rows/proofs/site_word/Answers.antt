@@ -4,7 +4,6 @@ use Prim.Native.Nat.{◌*◌, ◌≤◌}
 use native.Mathlib.Nat.{mul-le-mul}
 use native.Mathlib.Omega.{arith}
 use Rattle.rules.specs.Limits.{side_limit}
-use borrow.Author.Rules.{rules}
 use Rattle.rows.proofs.site_word.Goals.{After-as_index}
 use Rattle.rows.proofs.site_word.Goals as goal
 

@@ -7,7 +7,6 @@ use Rattle.rules.specs.Limits.{mark}
 use Rattle.rules.specs.Board.{away}
 use Rattle.gauge.specs.Line.{measured}
 use Rattle.gauge.proofs.Places.{apart_below}
-use borrow.Author.Rules.{rules}
 use Rattle.rows.proofs.value.Goals as goal
 
 pub returns-then-word-eq-MARK : goal.returns-then-word-eq-MARK

@@ -1,8 +1,8 @@
 use mathlib.Core.Path.{sym, ◌∙◌, ap, subst}
-use Prim.Native.Nat.{◌-◌, ◌^◌, ◌≤◌, ◌<◌}
+use Prim.Native.Nat.{◌^◌, ◌<◌}
 use native.Mathlib.Omega.{arith}
-use lib.ListN.{length, get_or}
-use Rattle.rules.proofs.Filling.{Filling, filling_none, filling_more}
+use lib.ListN.{length}
+use Rattle.rules.proofs.Filling.{filling_none, filling_more}
 use Rattle.gauge.specs.Line.{height_at}
 use Rattle.rows.proofs.write_distances.Goals as goal
 

@@ -1,10 +1,8 @@
 -- `rows::write_distances` meets its contract. The loop's invariant: the places before x have the heights of their winners.
 -- The measure is what is left of the row. Assumes nothing.
-use mathlib.Core.Path.{sym, ◌∙◌, ap, subst}
-use Prim.Native.Nat.{◌-◌, ◌^◌, ◌≤◌, ◌<◌}
-use native.Mathlib.Omega.{arith}
+use Prim.Native.Nat.{◌-◌, ◌≤◌}
 use lib.ListN.{length, get_or}
-use Rattle.rules.proofs.Filling.{Filling, filling_none, filling_more}
+use Rattle.rules.proofs.Filling.{Filling}
 use Rattle.gauge.specs.Line.{height_at}
 use Rattle.rows.proofs.write_distances.Given as goal
 

@@ -1,11 +1,11 @@
 use mathlib.Core.Path.{◌≡◌, sym, ◌∙◌, ap, subst}
-use Prim.Native.Nat.{◌-◌, ◌≤◌, ◌<◌}
+use Prim.Native.Nat.{◌<◌}
 use native.Mathlib.Nat.{le_refl}
 use native.Mathlib.Omega.{arith}
 use lib.ListN.{length, get_or}
 use Rattle.rules.specs.Limits.{side_limit}
 use Rattle.rules.specs.Board.{cell}
-use Rattle.rules.proofs.Filling.{Filling, filling_none, filling_more}
+use Rattle.rules.proofs.Filling.{filling_none, filling_more}
 use Rattle.rows.proofs.write_sites.Goals.{After-as_index-i, In-loop-x}
 use Rattle.rows.proofs.write_sites.Goals as goal
 

@@ -1,13 +1,9 @@
 -- `rows::write_sites` meets its contract. The loop's invariant: the places before x have their sites, and the places from x
 -- on still have their winners. The measure is what is left of the row. Assumes nothing.
-use mathlib.Core.Path.{◌≡◌, sym, ◌∙◌, ap, subst}
-use Prim.Native.Nat.{◌-◌, ◌≤◌, ◌<◌}
-use native.Mathlib.Nat.{le_refl}
-use native.Mathlib.Omega.{arith}
+use Prim.Native.Nat.{◌-◌, ◌≤◌}
 use lib.ListN.{length, get_or}
-use Rattle.rules.specs.Limits.{side_limit}
 use Rattle.rules.specs.Board.{cell}
-use Rattle.rules.proofs.Filling.{Filling, filling_none, filling_more}
+use Rattle.rules.proofs.Filling.{Filling}
 use Rattle.rows.proofs.write_sites.Given as goal
 
 abbrev pub invariant-loop-x : goal.invariant-loop-x

@@ -11,7 +11,6 @@ use Rattle.rules.proofs.Board.{cells_few}
 use Rattle.rules.proofs.SliceRows.{slice_parts}
 use Rattle.rules.proofs.Slices.{next_in}
 use Rattle.slices.proofs.After.{tail_zeroed}
-use borrow.Author.Rules.{rules}
 use Rattle.slices.proofs.accepted_slice.Goals.{After-struct_known-5-1}
 use Rattle.slices.proofs.accepted_slice.Goals as goal
 

@@ -2,7 +2,6 @@
 -- nothing.
 use mathlib.Core.Path.{ap}
 use Prim.Native.Nat.{◌+◌}
-use borrow.Author.Rules.{rules}
 use Rattle.slices.proofs.reach.Goals as goal
 
 pub returns : goal.returns

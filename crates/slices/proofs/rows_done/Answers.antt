@@ -3,7 +3,6 @@ use mathlib.Core.Path.{◌≡◌, sym, subst, subst₂}
 use Prim.Native.Nat.{◌+◌, ◌-◌}
 use native.Mathlib.Omega.{arith}
 use Rattle.slice_lines.specs.Lines.{RowsEnded}
-use borrow.Author.Rules.{rules}
 use Rattle.slices.proofs.rows_done.Goals as goal
 
 pub slice_bounds-row_lines-end : goal.slice_bounds-row_lines-end

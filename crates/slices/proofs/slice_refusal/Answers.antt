@@ -6,7 +6,6 @@ use Rattle.rules.specs.Limits.{slice_kind_limit}
 use Rattle.rules.specs.Refusals.{bad_sides, bad_kind, bad_buffers, bad_line}
 use Rattle.rules.proofs.Refusals.{holds_unless, sides_passes, kind_passes, kind_good}
 use Rattle.rules.proofs.SliceRows.{line_passes, line_good}
-use borrow.Author.Rules.{rules}
 use Rattle.slices.proofs.slice_refusal.Goals.{Else-a-gt-SLICE_KIND_LIMIT, Else-bad_buffers, Else-bad_sides}
 use Rattle.slices.proofs.slice_refusal.Goals as goal
 

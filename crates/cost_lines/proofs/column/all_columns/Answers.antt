@@ -1,8 +1,6 @@
 use mathlib.Core.Path.{refl, ◌∙◌, sym}
-use Prim.Native.Nat.{◌-◌}
 use native.Mathlib.Omega.{arith}
-use lib.ListN.{length}
-use Rattle.cost_lines.proofs.ColumnLine.{Sweeping, sweeping_more}
+use Rattle.cost_lines.proofs.ColumnLine.{sweeping_more}
 use Rattle.cost_lines.proofs.column.all_columns.Goals as goal
 
 pub loop-x-init : goal.loop-x-init

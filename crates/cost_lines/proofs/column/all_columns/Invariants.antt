@@ -1,10 +1,8 @@
 -- `cost_lines::column::all_columns` meets its contract. The loop's invariant: the columns before x have their words. The
 -- measure is what is left of the board's width. Assumes nothing.
-use mathlib.Core.Path.{refl, ◌∙◌, sym}
 use Prim.Native.Nat.{◌-◌}
-use native.Mathlib.Omega.{arith}
 use lib.ListN.{length}
-use Rattle.cost_lines.proofs.ColumnLine.{Sweeping, sweeping_more}
+use Rattle.cost_lines.proofs.ColumnLine.{Sweeping}
 use Rattle.cost_lines.proofs.column.all_columns.Given as goal
 
 abbrev pub invariant-loop-x : goal.invariant-loop-x

@@ -7,7 +7,6 @@ use lib.ListN.{length}
 use borrow.Rule.Slice.PartMut.{same_len_mid}
 use Rattle.rules.proofs.Parts.{part_length}
 use Rattle.cost_lines.proofs.ColumnLine.{column_line, column_more}
-use borrow.Author.Rules.{rules}
 use Rattle.cost_lines.proofs.column.column_line.Goals as goal
 
 pub winners_of-requires : goal.winners_of-requires

@@ -1,12 +1,12 @@
 use mathlib.Core.Path.{◌∙◌, ap}
-use Prim.Native.Nat.{◌-◌, ◌≤◌, ◌<◌}
+use Prim.Native.Nat.{◌<◌}
 use native.Mathlib.Omega.{arith}
 use lib.ListN.{length}
 use Rattle.rules.specs.Limits.{mark}
-use Rattle.rules.specs.Board.{cell, cost_at}
+use Rattle.rules.specs.Board.{cell}
 use Rattle.rules.proofs.Board.{cell_in}
 use Rattle.rules.proofs.Refusals.{getD_within}
-use Rattle.rules.proofs.Filling.{Filling, filling_none, filling_more}
+use Rattle.rules.proofs.Filling.{filling_none, filling_more}
 use Rattle.cost_lines.specs.Lines.{cell_value}
 use Rattle.cost_lines.proofs.column.gather.Goals.{In-loop-j}
 use Rattle.cost_lines.proofs.column.gather.Goals as goal

@@ -1,14 +1,9 @@
 -- `cost_lines::column::gather` meets its contract. The loop's invariant: the values before j are those of their cells. The
 -- measure is what is left of the column. Assumes nothing.
-use mathlib.Core.Path.{◌∙◌, ap}
-use Prim.Native.Nat.{◌-◌, ◌≤◌, ◌<◌}
-use native.Mathlib.Omega.{arith}
+use Prim.Native.Nat.{◌-◌, ◌≤◌}
 use lib.ListN.{length}
-use Rattle.rules.specs.Limits.{mark}
-use Rattle.rules.specs.Board.{cell, cost_at}
-use Rattle.rules.proofs.Board.{cell_in}
-use Rattle.rules.proofs.Refusals.{getD_within}
-use Rattle.rules.proofs.Filling.{Filling, filling_none, filling_more}
+use Rattle.rules.specs.Board.{cost_at}
+use Rattle.rules.proofs.Filling.{Filling}
 use Rattle.cost_lines.specs.Lines.{cell_value}
 use Rattle.cost_lines.proofs.column.gather.Given as goal
 

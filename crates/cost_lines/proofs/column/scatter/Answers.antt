@@ -1,10 +1,9 @@
-use Prim.Native.Nat.{◌-◌, ◌≤◌, ◌<◌}
+use Prim.Native.Nat.{◌<◌}
 use native.Mathlib.Omega.{arith}
-use lib.ListN.{length, get_or}
+use lib.ListN.{length}
 use Rattle.rules.specs.Board.{cell}
 use Rattle.rules.proofs.Board.{cell_in}
-use Rattle.cost_lines.specs.Lines.{winner_word}
-use Rattle.cost_lines.proofs.Putting.{Putting, putting_none, putting_more}
+use Rattle.cost_lines.proofs.Putting.{putting_none, putting_more}
 use Rattle.cost_lines.proofs.column.scatter.Goals.{In-loop-y}
 use Rattle.cost_lines.proofs.column.scatter.Goals as goal
 

@@ -1,12 +1,9 @@
 -- `cost_lines::column::scatter` meets its contract. The loop's invariant: the words of the column above y are put, and
 -- those of every other column stay. The measure is what is left of the column. Assumes nothing.
-use Prim.Native.Nat.{◌-◌, ◌≤◌, ◌<◌}
-use native.Mathlib.Omega.{arith}
+use Prim.Native.Nat.{◌-◌, ◌≤◌}
 use lib.ListN.{length, get_or}
-use Rattle.rules.specs.Board.{cell}
-use Rattle.rules.proofs.Board.{cell_in}
 use Rattle.cost_lines.specs.Lines.{winner_word}
-use Rattle.cost_lines.proofs.Putting.{Putting, putting_none, putting_more}
+use Rattle.cost_lines.proofs.Putting.{Putting}
 use Rattle.cost_lines.proofs.column.scatter.Given as goal
 
 abbrev pub invariant-loop-y : goal.invariant-loop-y

@@ -2,7 +2,6 @@
 use borrow.Author.Tests.{eq-eqb, ne_eqb}
 use lib.ListN.{get_or}
 use Rattle.rules.specs.Limits.{line_limit}
-use borrow.Author.Rules.{rules}
 use Rattle.cost_lines.proofs.column.winner_word.Goals as goal
 
 pub returns-then-values-as_index-eq-LINE_LIMIT : goal.returns-then-values-as_index-eq-LINE_LIMIT

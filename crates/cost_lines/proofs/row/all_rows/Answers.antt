@@ -1,10 +1,10 @@
 use mathlib.Core.Path.{refl, ◌∙◌, sym}
-use Prim.Native.Nat.{◌+◌, ◌-◌, ◌*◌, ◌≤◌}
+use Prim.Native.Nat.{◌+◌, ◌*◌, ◌≤◌}
 use native.Mathlib.Omega.{arith}
 use lib.ListN.{length}
 use Rattle.rules.proofs.Board.{row_ends}
 use Rattle.rules.proofs.RowParts.{row_part_long}
-use Rattle.cost_lines.proofs.RowLine.{Crossing, crossing_more}
+use Rattle.cost_lines.proofs.RowLine.{crossing_more}
 use Rattle.cost_lines.proofs.row.all_rows.Goals.{In-loop-y}
 use Rattle.cost_lines.proofs.row.all_rows.Goals as goal
 

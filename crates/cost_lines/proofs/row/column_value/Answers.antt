@@ -11,7 +11,6 @@ use Rattle.rules.specs.Board.{away, cost_at}
 use Rattle.rules.proofs.Refusals.{getD_within}
 use Rattle.gauge.specs.Line.{measured}
 use Rattle.gauge.proofs.Places.{apart_below}
-use borrow.Author.Rules.{rules}
 use Rattle.cost_lines.proofs.row.column_value.Goals.{After-as_index-row}
 use Rattle.cost_lines.proofs.row.column_value.Goals as goal
 

@@ -1,8 +1,5 @@
-use Prim.Native.Nat.{◌-◌, ◌≤◌}
 use native.Mathlib.Omega.{arith}
-use lib.ListN.{length, get_or}
-use Rattle.rules.proofs.Filling.{Filling, filling_none, filling_more}
-use Rattle.cost_lines.specs.Lines.{column_value}
+use Rattle.rules.proofs.Filling.{filling_none, filling_more}
 use Rattle.cost_lines.proofs.row.fill.Goals as goal
 
 pub loop-i-init : goal.loop-i-init

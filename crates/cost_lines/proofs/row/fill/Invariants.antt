@@ -1,9 +1,8 @@
 -- `cost_lines::row::fill` meets its contract. The loop's invariant: the values before i are those of their words. The
 -- measure is what is left of the row. Assumes nothing.
 use Prim.Native.Nat.{◌-◌, ◌≤◌}
-use native.Mathlib.Omega.{arith}
 use lib.ListN.{length, get_or}
-use Rattle.rules.proofs.Filling.{Filling, filling_none, filling_more}
+use Rattle.rules.proofs.Filling.{Filling}
 use Rattle.cost_lines.specs.Lines.{column_value}
 use Rattle.cost_lines.proofs.row.fill.Given as goal
 

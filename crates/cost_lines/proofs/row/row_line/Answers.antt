@@ -4,7 +4,6 @@ use mathlib.Core.Path.{◌∙◌, sym}
 use Prim.Native.Nat.{◌+◌, ◌*◌, ◌≤◌}
 use native.Mathlib.Omega.{arith}
 use lib.ListN.{length}
-use borrow.Author.Rules.{rules}
 use Rattle.rows.specs.Row.{Believed, LineRead}
 use Rattle.rows.proofs.RowLine.{words_length}
 use Rattle.cost_lines.proofs.RowLine.{believed, priced_part, line_read, row_more}

@@ -3,7 +3,6 @@ use mathlib.Core.Path.{ap₂}
 use Prim.Native.Nat.{◌/◌}
 use native.Mathlib.Omega.{arith}
 use Rattle.squares.proofs.Table.{Square, squared}
-use borrow.Author.Rules.{rules}
 use Rattle.gauge.proofs.crossing.last_euclid.Goals.{After-square, After-square-2}
 use Rattle.gauge.proofs.crossing.last_euclid.Goals as goal
 

@@ -3,7 +3,6 @@ use mathlib.Core.Path.{◌≡◌, ◌∙◌, sym, ap}
 use Prim.Native.Nat.{◌+◌}
 use native.Mathlib.Nat.{mod-le}
 use native.Mathlib.Omega.{arith}
-use borrow.Author.Rules.{rules}
 use Rattle.lane_flood.proofs.Around.{above, none_above, to_left, none_left, to_right, none_right, below}
 use Rattle.lane_flood.proofs.sides.beside.Goals as goal
 

@@ -1,9 +1,6 @@
 use mathlib.Core.Path.{refl}
-use Prim.Native.Nat.{◌-◌}
 use native.Mathlib.Omega.{arith}
-use lib.ListN.{length}
-use Rattle.lane_flood.specs.Labelling.{at}
-use Rattle.lane_search.proofs.Walking.{Seeking, seek_begins, seek_on, seek_ends}
+use Rattle.lane_search.proofs.Walking.{seek_begins, seek_on, seek_ends}
 use Rattle.lane_search.proofs.walk.next.Goals as goal
 
 pub nonzero_rem-x : goal.nonzero_rem-x

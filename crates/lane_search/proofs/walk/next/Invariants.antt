@@ -1,11 +1,9 @@
 -- `lane_search::walk::next` meets its contract. The loop's invariant: no side before k leads one label down, and one from k
 -- on does. The measure is how many of the four sides are left. Assumes nothing.
-use mathlib.Core.Path.{refl}
 use Prim.Native.Nat.{◌-◌}
-use native.Mathlib.Omega.{arith}
 use lib.ListN.{length}
 use Rattle.lane_flood.specs.Labelling.{at}
-use Rattle.lane_search.proofs.Walking.{Seeking, seek_begins, seek_on, seek_ends}
+use Rattle.lane_search.proofs.Walking.{Seeking}
 use Rattle.lane_search.proofs.walk.next.Given as goal
 
 abbrev pub invariant-loop-w : goal.invariant-loop-w

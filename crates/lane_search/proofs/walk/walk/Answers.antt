@@ -1,9 +1,8 @@
 use mathlib.Core.Path.{◌∙◌, sym}
-use Prim.Native.Nat.{◌-◌, ◌≤◌}
+use Prim.Native.Nat.{◌≤◌}
 use native.Mathlib.Omega.{arith}
 use lib.ListN.{length}
-use Rattle.lane_flood.specs.Labelling.{at}
-use Rattle.lane_search.proofs.Walking.{Walking, walk_begins, walk_goes, walk_ends}
+use Rattle.lane_search.proofs.Walking.{walk_begins, walk_goes, walk_ends}
 use Rattle.lane_search.proofs.walk.walk.Goals.{After-as_index-cells}
 use Rattle.lane_search.proofs.walk.walk.Goals as goal
 

@@ -1,11 +1,9 @@
 -- `lane_search::walk::walk` meets its contract. The loop's invariant: the cells before i are written and walk down the
 -- labels. The measure is how many cells are left. Assumes nothing.
-use mathlib.Core.Path.{◌∙◌, sym}
-use Prim.Native.Nat.{◌-◌, ◌≤◌}
-use native.Mathlib.Omega.{arith}
+use Prim.Native.Nat.{◌-◌}
 use lib.ListN.{length}
 use Rattle.lane_flood.specs.Labelling.{at}
-use Rattle.lane_search.proofs.Walking.{Walking, walk_begins, walk_goes, walk_ends}
+use Rattle.lane_search.proofs.Walking.{Walking}
 use Rattle.lane_search.proofs.walk.walk.Given as goal
 
 abbrev pub invariant-loop-i : goal.invariant-loop-i

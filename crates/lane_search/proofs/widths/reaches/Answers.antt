@@ -1,7 +1,6 @@
 -- `lane_search::widths::reaches` meets its contract: a labelled cell has a lane to the far end, and a cell with no label
 -- none as wide. Assumes nothing.
 use mathlib.Core.Path.{refl}
-use borrow.Author.Rules.{rules}
 use Rattle.lane_search.proofs.Lanes.{flood_answers}
 use Rattle.lane_search.proofs.widths.reaches.Goals as goal
 

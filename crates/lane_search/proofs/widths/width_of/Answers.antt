@@ -1,5 +1,4 @@
 use mathlib.Core.Path.{◌≡◌, ◌∙◌, sym, subst}
-use Prim.Native.Nat.{◌-◌, ◌^◌, ◌≤◌, ◌<◌}
 use native.Mathlib.Omega.{arith}
 use lib.ListN.{length}
 use Rattle.lane_flood.specs.Around.{Lists}

@@ -1,14 +1,10 @@
 -- `lane_search::widths::width_of` meets its contract. The loop's invariant: some lane is as wide as `low`, and none is
 -- wider than `high`. The measure is how far they are apart. Assumes nothing.
-use mathlib.Core.Path.{◌≡◌, ◌∙◌, sym, subst}
 use Prim.Native.Nat.{◌-◌, ◌^◌, ◌≤◌, ◌<◌}
-use native.Mathlib.Omega.{arith}
 use lib.ListN.{length}
 use Rattle.lane_flood.specs.Around.{Lists}
 use Rattle.lane_flood.specs.Labelling.{at}
 use Rattle.lane_search.specs.Course.{Between}
-use Rattle.lane_flood.proofs.Around.{lists_kept}
-use Rattle.lane_search.proofs.Lanes.{halving_begins, halving_up, halving_down}
 use Rattle.lane_search.proofs.widths.width_of.Given as goal
 
 abbrev pub invariant-loop-low : goal.invariant-loop-low

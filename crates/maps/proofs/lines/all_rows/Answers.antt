@@ -4,7 +4,6 @@ use native.Mathlib.Omega.{arith}
 use mathlib.Core.List.{List}
 use lib.ListN.{length, take, drop}
 use lib.Seq.{length-take-le, length_front}
-use Rattle.rules.specs.Limits.{side_limit}
 use Rattle.rules.proofs.Board.{cells_few, row_ends}
 use Rattle.rules.proofs.RowParts.{row_part_long}
 use Rattle.rows.specs.Row.{Believed, RowMade}

@@ -1,17 +1,10 @@
 -- `maps::lines::all_rows` meets its contract. The loop's invariant: the rows below y are made, and `at` is the number of row
 -- y's first cell. The measure is the number of rows left. Assumes nothing.
-use mathlib.Core.Path.{◌≡◌, refl, sym, ◌∙◌, subst}
-use Prim.Native.Nat.{ℕ, ◌+◌, ◌-◌, ◌*◌, ◌≤◌}
-use native.Mathlib.Omega.{arith}
-use mathlib.Core.List.{List}
-use lib.ListN.{length, take, drop}
-use lib.Seq.{length-take-le, length_front}
+use mathlib.Core.Path.{◌≡◌}
+use Prim.Native.Nat.{◌-◌, ◌*◌, ◌≤◌}
+use lib.ListN.{length}
 use Rattle.rules.specs.Limits.{side_limit}
-use Rattle.rules.proofs.Board.{cells_few, row_ends}
-use Rattle.rules.proofs.RowParts.{row_part_long}
-use Rattle.rows.specs.Row.{Believed, RowMade}
 use Rattle.maps.specs.Rows.{RowsMade}
-use Rattle.maps.proofs.Rows.{rows_none, believed_at, rows_more_at}
 use Rattle.maps.proofs.lines.all_rows.Given as goal
 
 abbrev pub invariant-loop-y : goal.invariant-loop-y

@@ -1,7 +1,4 @@
-use Prim.Native.Nat.{◌-◌, ◌≤◌}
 use native.Mathlib.Omega.{arith}
-use borrow.Author.Tests.{not-true}
-use Rattle.slice_lines.specs.Lines.{FirstBad}
 use Rattle.slice_lines.proofs.Testing.{whole_band, no_column, column_more, column_stops, column_end}
 use Rattle.slice_lines.proofs.band.first_bad.Goals as goal
 

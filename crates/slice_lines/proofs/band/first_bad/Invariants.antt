@@ -1,10 +1,7 @@
 -- `slice_lines::band::first_bad` meets its contract. A band without a bad byte is answered at once. The loop's invariant: no
 -- column before x stops. The measure is the number of columns left. Assumes nothing.
 use Prim.Native.Nat.{◌-◌, ◌≤◌}
-use native.Mathlib.Omega.{arith}
-use borrow.Author.Tests.{not-true}
 use Rattle.slice_lines.specs.Lines.{FirstBad}
-use Rattle.slice_lines.proofs.Testing.{whole_band, no_column, column_more, column_stops, column_end}
 use Rattle.slice_lines.proofs.band.first_bad.Given as goal
 
 abbrev pub invariant-loop-x : goal.invariant-loop-x

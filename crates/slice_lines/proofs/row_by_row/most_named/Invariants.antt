@@ -1,10 +1,7 @@
 -- `slice_lines::row_by_row::most_named` meets its contract. The loop's invariant: `most` is the most that one of the words
 -- before place i asks for. The measure is the number of words left. Assumes nothing.
-use mathlib.Core.Path.{◌≡◌, ◌∙◌, ap, subst}
-use Prim.Native.Nat.{◌-◌, ◌≤◌, max}
-use native.Mathlib.Omega.{arith}
+use Prim.Native.Nat.{◌-◌, ◌≤◌}
 use Rattle.slice_lines.specs.Lines.{MostNamed}
-use Rattle.slice_lines.proofs.Testing.{most_start, most_more}
 use Rattle.slice_lines.proofs.row_by_row.most_named.Given as goal
 
 abbrev pub invariant-loop-i : goal.invariant-loop-i

@@ -7,7 +7,6 @@ use Rattle.rules.specs.Refusals.{answer}
 use Rattle.rules.specs.Slices.{row_rows}
 use Rattle.rules.proofs.Board.{row_ends, cells_few}
 use Rattle.slice_lines.proofs.Rows.{row_believed}
-use borrow.Author.Rules.{rules}
 use Rattle.slice_lines.proofs.row_by_row.one_row.Goals.{Else-number-ne0}
 use Rattle.slice_lines.proofs.row_by_row.one_row.Goals as goal
 

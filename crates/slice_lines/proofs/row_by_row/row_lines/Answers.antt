@@ -5,7 +5,6 @@ use native.Mathlib.Omega.{arith}
 use lib.ListN.{length, take, drop}
 use lib.Seq.{length-take-le, length_front}
 use borrow.Rule.Slice.PartMut.{put_mid}
-use Rattle.rules.specs.Limits.{side_limit}
 use Rattle.rules.proofs.Board.{cells_few, row_ends}
 use Rattle.rules.proofs.RowParts.{row_part_long}
 use Rattle.slice_lines.specs.Lines.{RowPlace, RowOnce, RowsDone}

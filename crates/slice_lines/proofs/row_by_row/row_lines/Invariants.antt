@@ -1,17 +1,10 @@
 -- `slice_lines::row_by_row::row_lines` meets its contract. The loop's invariant: the row lines before y are done, and
 -- `at` is the number of row y's first cell. The measure is the number of rows left. Assumes nothing.
-use mathlib.Core.Path.{◌≡◌, refl, sym, ◌∙◌, subst}
-use Prim.Native.Nat.{◌+◌, ◌-◌, ◌*◌, ◌≤◌}
-use native.Mathlib.Nat.{mul-le-mul_right}
-use native.Mathlib.Omega.{arith}
-use lib.ListN.{length, take, drop}
-use lib.Seq.{length-take-le, length_front}
-use borrow.Rule.Slice.PartMut.{put_mid}
+use mathlib.Core.Path.{◌≡◌}
+use Prim.Native.Nat.{◌-◌, ◌*◌, ◌≤◌}
+use lib.ListN.{length}
 use Rattle.rules.specs.Limits.{side_limit}
-use Rattle.rules.proofs.Board.{cells_few, row_ends}
-use Rattle.rules.proofs.RowParts.{row_part_long}
-use Rattle.slice_lines.specs.Lines.{RowPlace, RowOnce, RowsDone}
-use Rattle.slice_lines.proofs.Rows.{rows_none, once_number, rows_stay, rows_more}
+use Rattle.slice_lines.specs.Lines.{RowsDone}
 use Rattle.slice_lines.proofs.row_by_row.row_lines.Given as goal
 
 abbrev pub invariant-loop-y : goal.invariant-loop-y

@@ -2,7 +2,6 @@
 -- nothing.
 use mathlib.Core.Path.{sym}
 use Rattle.slice_lines.proofs.Testing.{most_13, most_6, most_0}
-use borrow.Author.Rules.{rules}
 use Rattle.slice_lines.proofs.row_by_row.row_number.Goals as goal
 
 pub returns-then-h-most : goal.returns-then-h-most

@@ -2,7 +2,6 @@
 -- its number, which a word that is not the greatest can hold. Assumes nothing.
 use mathlib.Core.Path.{sym}
 use Rattle.slice_lines.proofs.Testing.{needs_none, needs_more}
-use borrow.Author.Rules.{rules}
 use Rattle.slice_lines.proofs.row_by_row.rows_needed.Goals as goal
 
 pub returns-then-word-eq-MARK : goal.returns-then-word-eq-MARK

@@ -1,4 +1,3 @@
 pub mod Range
 pub mod Scaling
 pub mod Opening
-pub mod Clearing

@@ -2,31 +2,10 @@
 -- in which half the root lies: in the upper one exactly if the square of its beginning is not above x. When the width
 -- is 1, the interval's beginning is the root. Assumes nothing.
 use mathlib.Core.Path.{◌≡◌, refl, ap, subst}
-use Prim.Native.Nat.{ℕ, zero, suc, ◌+◌, ◌-◌, ◌*◌, ◌/◌, ◌^◌, ◌≤◌, ◌<◌}
+use Prim.Native.Nat.{ℕ, zero, suc, ◌*◌, ◌/◌, ◌^◌, ◌<◌}
 use native.Mathlib.Nat.{pow-suc}
 use native.Mathlib.Omega.{arith}
-use lib.Pow.{pow_pos}
-use Rattle.rules.specs.Millimetres.{Root}
-use Rattle.rules.proofs.Farthest.{square_most}
 use Rattle.root.specs.Between.{Between}
-
-module _ {x n digit : ℕ} (b : Between x n (2 * digit)) where
-  -- the square of the upper half's beginning is a u64
-  pub square_fits : 0 < digit → (n + digit) * (n + digit) < 2 ^ 64
-  square_fits some =
-      let top : n + digit ≤ 2 ^ 32 - 1 = omega (arith, b.small) in
-      let squares = square_most (n + digit) (2 ^ 32 - 1) top in
-      omega arith
-
-  -- the upper half
-  pub upper : (n + digit) * (n + digit) ≤ x → Between x (n + digit) digit
-  upper l =
-      let whole : n + digit + digit ≡ n + 2 * digit = omega arith in
-      record { from = l; to = rw whole b.to; small = omega (arith, b.small) }
-
-  -- the lower half
-  pub lower : x < (n + digit) * (n + digit) → Between x n digit
-  lower l = record { from = b.from; to = l; small = omega (arith, b.small) }
 
 -- the interval is 2^k wide, and the next digit is half of that
 pub record Halving (x n digit : ℕ) : Type 0 where
@@ -60,15 +39,3 @@ module _ {x n digit : ℕ} (H : Halving x n digit) where
   halving_more {r} some b =
       let (j, half, whole) = next some in
       record { k = j; digit_is = ap (λ (w : ℕ). w / 2) half; between = subst (λ (w : ℕ). Between x r w) half b }
-
-  -- what is found is a u32
-  pub halving_fits : n < 2 ^ 32
-  halving_fits = omega (arith, H.between.small, pow_pos H.k)
-
-  -- when no digit is left, it is the root
-  pub halving_done : digit ≤ 0 → Root x n
-  halving_done none = go H.k H.digit_is H.between
-    where
-      go : (k : ℕ) → digit ≡ 2 ^ k / 2 → Between x n (2 ^ k) → Root x n
-      go zero is b = record { within = b.from; greatest = b.to }
-      go (suc j) is b = absurd (omega (arith, pow-suc 2 j, pow_pos j))

@@ -1,7 +1,6 @@
 -- `figure_text::digit_count` meets its contract. The loop's invariant: so many digits are counted, with one of the rest
 -- among them. The measure is the rest. Assumes nothing.
-use native.Mathlib.Omega.{arith}
-use Rattle.figure_text.proofs.Writing.{Counting, counting_first, counting_more, counting_all}
+use Rattle.figure_text.proofs.Writing.{Counting}
 use Rattle.figure_text.proofs.digit_count.Given as goal
 
 abbrev pub invariant-loop-rest : goal.invariant-loop-rest

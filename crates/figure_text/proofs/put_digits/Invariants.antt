@@ -1,7 +1,6 @@
 -- `figure_text::put_digits` meets its contract. The loop's invariant: the digits from place i on are put. The measure is
 -- i. Assumes nothing.
-use native.Mathlib.Omega.{arith}
-use Rattle.figure_text.proofs.Writing.{Placing, placing_none, placing_more, placing_all}
+use Rattle.figure_text.proofs.Writing.{Placing}
 use Rattle.figure_text.proofs.put_digits.Given as goal
 
 abbrev pub invariant-loop-i : goal.invariant-loop-i

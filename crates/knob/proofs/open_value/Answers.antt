@@ -3,7 +3,7 @@
 -- value is good: a good value passes both tests and comes back. Assumes nothing.
 use Rattle.std.proofs.Common.{sym, refl, subst, arith}
 use lib.Ieee.{of_bits}
-use Rattle.knob.proofs.Range.{Whole, top_whole, holds_whole, in_range, cut_asks, cut_whole}
+use Rattle.knob.proofs.Range.{Whole, holds_whole, in_range, cut_asks, cut_whole}
 use Rattle.knob.proofs.Scaling.{came_back, not_below, not_above, not_lost}
 use Rattle.knob.proofs.open_value.Goals.{After-truncating_f32_to_u64-k, else-x-via-then-x+else-x-2, else-x-via-else-x}
 use Rattle.knob.proofs.open_value.Goals as goal
@@ -14,9 +14,6 @@ unfolding of_bits
 whole c =
     subst Whole (sym c.truncating_f32_to_u64-k.ensures)
     (cut_whole _ (in_range _ _ c.if-x.true c.if-x-2.true (refl, refl)))
-
-pub int_to_float-t-5 : goal.int_to_float-t-5
-int_to_float-t-5 c = holds_whole top_whole
 
 pub truncating_f32_to_u64-k-requires : goal.truncating_f32_to_u64-k-requires
 unfolding of_bits

@@ -1,5 +1,5 @@
 use native.Mathlib.Omega.{arith}
-use Rattle.root.proofs.Rooting.{halving_all, halving_asks, halving_more, halving_fits, halving_done}
+use Rattle.root.proofs.Rooting.{halving_all, halving_asks, halving_more}
 use Rattle.root.proofs.root.Goals as goal
 
 pub loop-digit-init : goal.loop-digit-init
@@ -10,9 +10,3 @@ with_digit-found-requires c = (halving_asks c.loop-digit.invariant (omega arith)
 
 pub loop-digit-preserved : goal.loop-digit-preserved
 loop-digit-preserved c = halving_more c.loop-digit.invariant (omega arith) c.with_digit-found.ensures
-
-pub overflow_cast-result : goal.overflow_cast-result
-overflow_cast-result c = omega (arith, halving_fits c.loop-digit.invariant)
-
-pub returns : goal.returns
-returns c = halving_done c.loop-digit.invariant (omega arith)

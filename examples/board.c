@@ -2,9 +2,9 @@
  * A small board from end to end: its map, the same map in slices, its clear map, a corner's distance in millimetres, its
  * widest lane. Then the longest board that is accepted, and one that is refused.
  *
- * After `rt staticlib olavinthu`, from the repository's root:
+ * After `(cd crates/olavinthu && rt lib)`, from the repository's root:
  *
- *     cc -std=c11 -Iinclude examples/board.c target/staticlib/libolavinthu.a -o target/board && target/board
+ *     cc -std=c11 -Iinclude examples/board.c crates/olavinthu/out/libolavinthu.a -o /tmp/board && /tmp/board
  *
  * It prints examples/board.txt and answers 0, or 1 where something is not as it should be.
  */

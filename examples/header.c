@@ -3,9 +3,9 @@
  * refused, a kind gives its own distances, a refusal or a stop answers a call that breaks its rule alone, the mark stands
  * where it should, and no call takes more stack than is said.
  *
- * After `rt staticlib olavinthu`, from the repository's root:
+ * After `(cd crates/olavinthu && rt lib)`, from the repository's root:
  *
- *     cc -std=c11 -Iinclude examples/header.c target/staticlib/libolavinthu.a -pthread -o target/header && target/header
+ *     cc -std=c11 -Iinclude examples/header.c crates/olavinthu/out/libolavinthu.a -pthread -o /tmp/header && /tmp/header
  *
  * It prints examples/header.txt and answers 0, or says on standard error what is not so first and answers 1. The tests on
  * the largest boards come last, since most of the time goes there. The stack is looked at from threads, hence -pthread.

@@ -9,7 +9,7 @@ use std::io::{self, Write};
 use std::process::{Command, Stdio};
 
 /// Where `rt` puts the program.
-const PROGRAM: &str = concat!(env!("CARGO_MANIFEST_DIR"), "/../target/bin/bench");
+const PROGRAM: &str = concat!(env!("CARGO_MANIFEST_DIR"), "/../crates/bench/out/bench");
 
 impl Call for BenchFile {
     fn name(&self) -> &'static str {

@@ -1,6 +1,6 @@
 -- Boring record after record. The bytes that are left bore what is still to bore, so that together with the picture so
 -- far they give the whole picture; the count so far is of the picture so far. Assumes nothing.
-use mathlib.Core.Path.{◌≡◌, refl, ◌∙◌, sym, ap, subst₂}
+use mathlib.Core.Path.{◌≡◌, ◌∙◌, sym, ap, subst₂}
 use mathlib.Core.Bool.{false}
 use mathlib.Core.List.{List}
 use Prim.Native.Nat.{ℕ, ◌+◌, ◌-◌, ◌*◌, ◌≤◌, ◌<◌}
@@ -20,31 +20,25 @@ pub record Boring (bytes before now : List ℕ) (fresh i : ℕ) : Type 0 where
   pub left : bore_all (drop i bytes) now ≡ bore_all bytes before
   pub counted : fresh + bores before ≡ bores now
 
-module _ {bytes before : List ℕ} where
-  -- none yet
-  pub boring_none : off_board bytes ≡ false → length before ≡ bench_side * bench_side → Boring bytes before before 0 0
-  boring_none inside long =
-      record { within = omega arith; inside = inside; as_long = long; left = refl; counted = omega arith }
+module _ {bytes before now : List ℕ} {fresh i : ℕ} (B : Boring bytes before now fresh i) where
+  -- one record more
+  pub boring_more : {after : List ℕ} {x y new : ℕ} → 4 ≤ length bytes - i → x ≡ coordinate_at bytes i
+      → y ≡ coordinate_at bytes (i + 2) → BoredCell (cell bench_side x y) now after new
+      → Boring bytes before after (fresh + new) (i + 4)
+  boring_more {after} {x} {y} {new} more column row B' =
+      let C = subst₂ (λ u v. BoredCell (cell bench_side u v) now after new) column row B' in
+      record {
+        within = omega (arith, B.within);
+        inside = (record_inside bytes i more B.inside).2;
+        as_long = ap length C.picture_is ∙ length-set now _ 1 ∙ B.as_long;
+        left = ap (bore_all (drop (i + 4) bytes)) C.picture_is ∙ sym (bore_record bytes i more now) ∙ B.left;
+        counted = omega (arith, B.counted, C.counted);
+      }
 
-  module _ {now : List ℕ} {fresh i : ℕ} (B : Boring bytes before now fresh i) where
-    -- one record more
-    pub boring_more : {after : List ℕ} {x y new : ℕ} → 4 ≤ length bytes - i → x ≡ coordinate_at bytes i
-        → y ≡ coordinate_at bytes (i + 2) → BoredCell (cell bench_side x y) now after new
-        → Boring bytes before after (fresh + new) (i + 4)
-    boring_more {after} {x} {y} {new} more column row B' =
-        let C = subst₂ (λ u v. BoredCell (cell bench_side u v) now after new) column row B' in
-        record {
-          within = omega (arith, B.within);
-          inside = (record_inside bytes i more B.inside).2;
-          as_long = ap length C.picture_is ∙ length-set now _ 1 ∙ B.as_long;
-          left = ap (bore_all (drop (i + 4) bytes)) C.picture_is ∙ sym (bore_record bytes i more now) ∙ B.left;
-          counted = omega (arith, B.counted, C.counted);
-        }
-
-    -- all of them
-    pub boring_all : length bytes - i < 4 → BoredBy bytes before now fresh
-    boring_all end =
-        record {
-          picture_is = sym (bore_end (drop i bytes) now (omega (arith, length-drop i bytes))) ∙ B.left;
-          counted = B.counted;
-        }
+  -- all of them
+  pub boring_all : length bytes - i < 4 → BoredBy bytes before now fresh
+  boring_all end =
+      record {
+        picture_is = sym (bore_end (drop i bytes) now (omega (arith, length-drop i bytes))) ∙ B.left;
+        counted = B.counted;
+      }

@@ -1,6 +1,6 @@
--- How many cells are bored. Boring a sound cell makes it one more, boring a bored one changes nothing; a sound board has
--- none, and no board has more than its cells. Assumes nothing.
-use mathlib.Core.Path.{◌≡◌, refl, ◌∙◌, sym, ap}
+-- How many cells are bored. Boring a sound cell makes it one more; a sound board has none, and no board has more
+-- than its cells. Assumes nothing.
+use mathlib.Core.Path.{◌≡◌, refl}
 use mathlib.Core.Bool.{Bool, true, false, cond}
 use mathlib.Core.List.{List, [], ◌∷◌}
 use Prim.Native.Nat.{ℕ, zero, suc, ◌+◌, ◌≤◌, ◌<◌}
@@ -8,13 +8,8 @@ use native.Mathlib.Nat.{le_of_suc-le-suc}
 use native.Mathlib.Omega.{arith}
 use lib.Dec.{eqb}
 use lib.ListN.{length, get_or, set, replicate}
-use lib.Seq.{set-get_or}
 use borrow.Author.Tests.{ne_eqb}
 use Rattle.rules.specs.BenchFile.{bores}
-
--- a cell that is bored already stays as it is
-pub bored_again : (picture : List ℕ) (c : ℕ) → get_or picture c 0 ≡ 1 → picture ≡ set picture c 1
-bored_again picture c e = sym (ap (set picture c) (sym e) ∙ set-get_or picture c 0)
 
 -- a cell that was sound is one more
 pub bored_anew : (picture : List ℕ) (c : ℕ) → c < length picture → (get_or picture c 0 ≡ 1 → ⊥)

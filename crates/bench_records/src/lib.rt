@@ -14,6 +14,7 @@ use rules::{BENCH_SIDE, FILE_LIMIT};
 pub const BOARD_SIDE: usize = BENCH_SIDE as usize;
 
 // 10: the length is not a multiple of 4, or over the limit.
+#[tactic(auto, unfolding(rules::specs::Refusals::bad_length))]
 pub fn bad_length(bytes: usize) -> bool
     ensures { result ≡ bad_length bytes }
 {

@@ -9,6 +9,7 @@ ghost use Rattle.rules.specs.Refusals.{any, bad_sides, bad_weights, scratch_word
 use rules::{CHAMFER_KIND, SIDE_LIMIT, WEIGHT_LIMIT};
 
 // 1: a side is 0 or above the limit.
+#[tactic(auto, unfolding(rules::specs::Refusals::bad_sides))]
 pub fn bad_sides(w: u32, h: u32) -> bool
     ensures { result ≡ bad_sides w h }
 {
@@ -25,6 +26,7 @@ pub fn bad_sides(w: u32, h: u32) -> bool
 }
 
 // 3: kind 3, and the weights break their rule.
+#[tactic(auto, unfolding(rules::specs::Refusals::bad_weights))]
 pub fn bad_weights(kind: u32, d1: u32, d2: u32) -> bool
     ensures { result ≡ bad_weights kind d1 d2 }
 {
@@ -52,6 +54,7 @@ pub fn scratch_words(w: usize, h: usize) -> usize
 }
 
 // 4: the picture has another length than W.H, or a buffer is below its minimum.
+#[tactic(auto, unfolding(rules::specs::Refusals::bad_buffers))]
 pub fn bad_buffers(
     w: usize,
     h: usize,
@@ -77,6 +80,7 @@ pub fn bad_buffers(
 }
 
 // 5: a byte of the picture is neither 0 nor 1.
+#[tactic(auto, using(crate::proofs::Bytes::bad_here))]
 pub fn bad_bytes(picture: &[u8]) -> bool
     ensures { result ≡ any bad_byte picture.now }
 {

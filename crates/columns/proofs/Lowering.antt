@@ -4,7 +4,7 @@
 use mathlib.Core.Path.{◌≡◌, refl, ◌∙◌, ap, subst}
 use mathlib.Core.List.{List}
 use Prim.Native.Nat.{ℕ, ◌+◌, ◌-◌, ◌*◌, ◌≤◌, ◌<◌}
-use native.Mathlib.Nat.{mul_comm, mul-le-mul_left, mul-le-mul_right, lt_of_mul-lt-mul_right, le_of_mul-le-mul_right}
+use native.Mathlib.Nat.{mul_comm, mul-le-mul_right, lt_of_mul-lt-mul_right, le_of_mul-le-mul_right}
 use native.Mathlib.Omega.{arith}
 use lib.ListN.{length, get_or, set}
 use Rattle.rules.specs.Limits.{mark}
@@ -61,10 +61,6 @@ row_done picture {w} {y = y} {start} band from l is rows row =
     (λ x word m n p.
     step_down (byte w picture x) next (omega (arith, band.sides.height_to))
     (rows.words x (y - 1) m n (omega arith) (omega arith)) p)
-
--- the top row lies on the board
-pub top_inside : {w h a b : ℕ} → Band w h a b → b ≤ w * h
-top_inside {w} band = omega (arith, band.columns_in, mul-le-mul_left w band.sides.height_from)
 
 module _ {w h a b : ℕ} (band : Band w h a b) {picture topped : List ℕ} where
   -- the top row is done

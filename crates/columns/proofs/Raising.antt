@@ -9,7 +9,7 @@ use native.Mathlib.Nat.{le_refl, mul-le-mul_left, lt_of_mul-lt-mul_right}
 use native.Mathlib.Omega.{arith}
 use lib.ListN.{length, get_or, set}
 use Rattle.rules.specs.Board.{cell}
-use Rattle.rules.proofs.Board.{row_ends, cell_inj}
+use Rattle.rules.proofs.Board.{cell_inj}
 use Rattle.columns.specs.Words.{Nearer}
 use Rattle.columns.specs.Bands.{Band}
 use Rattle.columns.specs.Rows.{BandRow, BandRows, Lifted, Raised}
@@ -32,10 +32,6 @@ pub record Raising (w h a b : ℕ) (before words : List ℕ) (start y : ℕ) : T
   pub done : BandRows w a b y h (Raised w h before) before words
 
 module _ {w h a b : ℕ} (band : Band w h a b) where
-  -- the last row lies on the board
-  pub last_inside : (h - 1) * w + w ≤ w * h
-  last_inside = row_ends w refl (omega (arith, band.sides.height_from))
-
   -- the last row needs no step
   pub raising_start : {before : List ℕ} → Raising w h a b before before ((h - 1) * w) (h - 1)
   raising_start =
@@ -62,10 +58,6 @@ module _ {w h a b : ℕ} (band : Band w h a b) where
       -- and begins a width later
       over : start ≡ (y - 1) * w + w
       over = omega (arith, s.start_is, ap (λ k. k * w) next)
-
-      -- both rows lie on the board
-      pub two_rows_up : (w ≤ start) × (start - w + w + w ≤ w * h)
-      two_rows_up = omega (arith, over, row_ends w s.start_is s.inside)
 
       -- the row over y has what the down sweep left
       kept : {x : ℕ} → x < b → get_or words (cell w x (y - 1)) 0 ≡ get_or before (cell w x (y - 1)) 0

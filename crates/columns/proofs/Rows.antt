@@ -1,11 +1,10 @@
 -- Words filled one by one along a row, and row by row. A store at a column changes that column's word and no other,
 -- so a row grows by one column. Cells of different rows have different numbers, so rows grow by a row beside them and
 -- keep what they had. Assumes nothing.
-use mathlib.Core.Path.{◌≡◌, refl, ◌∙◌, subst}
+use mathlib.Core.Path.{◌≡◌, refl, ◌∙◌}
 use mathlib.Core.Logic.{◌≢◌, by_cases}
 use mathlib.Core.List.{List}
 use Prim.Native.Nat.{ℕ, ◌+◌, ◌*◌, ◌≤◌, ◌<◌}
-use native.Mathlib.Nat.{le_refl}
 use native.Mathlib.Decide.{ℕ_discrete}
 use native.Mathlib.Omega.{arith}
 use borrow.Author.Count.{below_more}
@@ -21,42 +20,28 @@ pub record Filling (start a b : ℕ) (Is : ℕ → ℕ → Type 0) (before words
   pub to : x ≤ b
   pub done : BandRow start a x Is before words
 
-module _ {start a b : ℕ} {Is : ℕ → ℕ → Type 0} where
-  -- nothing is filled
-  pub filling_start : {words : List ℕ} → a ≤ b → Filling start a b Is words words a
-  filling_start l =
+module _ {start a b : ℕ} {Is : ℕ → ℕ → Type 0} {before words : List ℕ} {x : ℕ} (s : Filling start a b Is before words x) where
+  -- a word that belongs to no column below x is as it was
+  pub unfilled : (k : ℕ) → ((x' : ℕ) → x' < x → k ≢ start + x') → get_or words k 0 ≡ get_or before k 0
+  unfilled k out = s.done.others k (λ x' l m e. out x' m e)
+
+  -- column x is filled
+  pub filling_more : {i v : ℕ} → x < b → i ≡ start + x → i < length words → Is x v →
+      Filling start a b Is before (set words i v) (x + 1)
+  filling_more {i} {v} l at fits is =
       record {
-        from = le_refl a;
-        to = l;
-        done = record { words = λ x m n. absurd (omega arith); others = λ k out. refl; as_long = refl };
+        from = omega (arith, s.from);
+        to = omega arith;
+        done = record {
+          words = λ x' m n. below_more (λ k. a ≤ k → Is k (get_or (set words i v) (start + k) 0)) x
+              (λ k p o. rw (get_or-set_other words i (start + k) v 0 (λ e. omega arith)) (s.done.words k o p))
+              (λ o. rw (← at, get_or-set_same words i v 0 fits) is) x' n m;
+          others = λ k out.
+              get_or-set_other words i k v 0 (λ e. out x s.from (omega arith) (e ∙ at))
+              ∙ s.done.others k (λ x' m n e. out x' m (omega arith) e);
+          as_long = length-set words i v ∙ s.done.as_long;
+        };
       }
-
-  module _ {before words : List ℕ} {x : ℕ} (s : Filling start a b Is before words x) where
-    -- a word that belongs to no column below x is as it was
-    pub unfilled : (k : ℕ) → ((x' : ℕ) → x' < x → k ≢ start + x') → get_or words k 0 ≡ get_or before k 0
-    unfilled k out = s.done.others k (λ x' l m e. out x' m e)
-
-    -- column x is filled
-    pub filling_more : {i v : ℕ} → x < b → i ≡ start + x → i < length words → Is x v →
-        Filling start a b Is before (set words i v) (x + 1)
-    filling_more {i} {v} l at fits is =
-        record {
-          from = omega (arith, s.from);
-          to = omega arith;
-          done = record {
-            words = λ x' m n. below_more (λ k. a ≤ k → Is k (get_or (set words i v) (start + k) 0)) x
-                (λ k p o. rw (get_or-set_other words i (start + k) v 0 (λ e. omega arith)) (s.done.words k o p))
-                (λ o. rw (← at, get_or-set_same words i v 0 fits) is) x' n m;
-            others = λ k out.
-                get_or-set_other words i k v 0 (λ e. out x s.from (omega arith) (e ∙ at))
-                ∙ s.done.others k (λ x' m n e. out x' m (omega arith) e);
-            as_long = length-set words i v ∙ s.done.as_long;
-          };
-        }
-
-    -- every column is filled
-    pub filling_end : b ≤ x → BandRow start a b Is before words
-    filling_end l = let e : x ≡ b = omega (arith, s.to) in subst (λ d. BandRow start a d Is before words) e s.done
 
 -- no row
 pub rows_none : {w a b c : ℕ} {Is : ℕ → ℕ → ℕ → Type 0} {words : List ℕ} → BandRows w a b c c Is words words

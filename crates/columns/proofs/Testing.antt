@@ -1,11 +1,10 @@
 -- The test of bytes, row by row: the greatest byte of a row's columns is above 1 exactly where some byte of them is.
 -- Assumes nothing.
-use mathlib.Core.Path.{◌≡◌, subst}
+use mathlib.Core.Path.{◌≡◌}
 use mathlib.Core.Logic.{by_cases}
-use mathlib.Core.Bool.{true, false, true≢false, false≢true}
+use mathlib.Core.Bool.{true, true≢false}
 use mathlib.Core.List.{List}
 use Prim.Native.Nat.{ℕ, ◌+◌, ◌*◌, ◌≤◌, ◌<◌, max}
-use native.Mathlib.Nat.{le_refl}
 use native.Mathlib.Decide.{dec_le}
 use native.Mathlib.Omega.{arith}
 use borrow.Author.Count.{below_more}
@@ -20,36 +19,22 @@ pub record Seeing (start a b : ℕ) (picture : List ℕ) (most x : ℕ) : Type 0
   pub to : x ≤ b
   pub done : Most start a x picture most
 
-module _ {start a b : ℕ} {picture : List ℕ} where
-  -- of no column the greatest is 0
-  pub seeing_start : a ≤ b → Seeing start a b picture 0 a
-  seeing_start l =
+module _ {start a b : ℕ} {picture : List ℕ} {most x : ℕ} (s : Seeing start a b picture most x) where
+  -- the byte of column x is seen
+  pub seeing_more : {r : ℕ} → x < b → r ≡ max most (get_or picture (start + x) 0) → Seeing start a b picture r (x + 1)
+  seeing_more {r} l e =
       record {
-        from = le_refl a;
-        to = l;
-        done = record { greatest = λ x m n. absurd (omega arith); attained = λ m. absurd (omega arith) };
+        from = omega (arith, s.from);
+        to = omega arith;
+        done = record {
+          greatest = λ x' m n. below_more (λ k. a ≤ k → get_or picture (start + k) 0 ≤ r) x
+              (λ k p o. omega (arith, s.done.greatest k o p)) (λ o. omega arith) x' n m;
+          attained = λ m. by_cases (dec_le most (get_or picture (start + x) 0))
+              (λ (n : most ≤ get_or picture (start + x) 0). (x, s.from, omega arith, omega arith))
+              (λ (n : ¬ (most ≤ get_or picture (start + x) 0)).
+              let t = s.done.attained (omega arith) in (t.0, t.1, omega (arith, t.2), omega (arith, t.3)));
+        };
       }
-
-  module _ {most x : ℕ} (s : Seeing start a b picture most x) where
-    -- the byte of column x is seen
-    pub seeing_more : {r : ℕ} → x < b → r ≡ max most (get_or picture (start + x) 0) → Seeing start a b picture r (x + 1)
-    seeing_more {r} l e =
-        record {
-          from = omega (arith, s.from);
-          to = omega arith;
-          done = record {
-            greatest = λ x' m n. below_more (λ k. a ≤ k → get_or picture (start + k) 0 ≤ r) x
-                (λ k p o. omega (arith, s.done.greatest k o p)) (λ o. omega arith) x' n m;
-            attained = λ m. by_cases (dec_le most (get_or picture (start + x) 0))
-                (λ (n : most ≤ get_or picture (start + x) 0). (x, s.from, omega arith, omega arith))
-                (λ (n : ¬ (most ≤ get_or picture (start + x) 0)).
-                let t = s.done.attained (omega arith) in (t.0, t.1, omega (arith, t.2), omega (arith, t.3)));
-          };
-        }
-
-    -- every column is seen
-    pub seeing_end : b ≤ x → Most start a b picture most
-    seeing_end l = let e : x ≡ b = omega (arith, s.to) in subst (λ d. Most start a d picture most) e s.done
 
 -- no byte before row y is bad; row y begins at `start`
 pub record Clean (w h a b : ℕ) (picture : List ℕ) (start y : ℕ) : Type 0 where
@@ -57,36 +42,12 @@ pub record Clean (w h a b : ℕ) (picture : List ℕ) (start y : ℕ) : Type 0 w
   pub start_is : start ≡ y * w
   pub good : (x y' : ℕ) → a ≤ x → x < b → y' < y → get_or picture (cell w x y') 0 ≤ 1
 
-module _ {w h a b : ℕ} {picture : List ℕ} where
-  -- above the top row there is no byte
-  pub clean_start : Clean w h a b picture 0 0
-  clean_start = record { to = omega arith; start_is = omega arith; good = λ x y l m n. absurd (omega arith) }
-
-  module _ {start y : ℕ} (s : Clean w h a b picture start y) where
-    -- nor one of row y
-    pub clean_more : {r : ℕ} → y < h → Most start a b picture r → r ≤ 1 →
-        Clean w h a b picture (start + w) (y + 1)
-    clean_more l q p =
-        record {
-          to = omega arith;
-          start_is = omega (arith, s.start_is);
-          good = λ x y' m n. below_more (λ j. get_or picture (cell w x j) 0 ≤ 1) y (λ j. s.good x j m n)
-              (rw (← s.start_is) (omega (arith, q.greatest x m n))) y';
-        }
-
-    -- a byte of row y is bad
-    pub bad_row : {r : ℕ} → y < h → Most start a b picture r → 1 < r → BadBand w h a b picture true
-    bad_row l q p =
-        let t = q.attained (omega arith) in
-        record {
-          holds = λ _. (t.0, y, t.1, t.2, l, rw (← s.start_is) (omega (arith, t.3)));
-          passes = λ e. absurd (true≢false e);
-        }
-
-    -- no byte of any row is
-    pub clean_end : h ≤ y → BadBand w h a b picture false
-    clean_end l =
-        record {
-          holds = λ e. absurd (false≢true e);
-          passes = λ _ x y' m n o. s.good x y' m n (omega (arith, s.to));
-        }
+module _ {w h a b : ℕ} {picture : List ℕ} {start y : ℕ} (s : Clean w h a b picture start y) where
+  -- a byte of row y is bad
+  pub bad_row : {r : ℕ} → y < h → Most start a b picture r → 1 < r → BadBand w h a b picture true
+  bad_row l q p =
+      let t = q.attained (omega arith) in
+      record {
+        holds = λ _. (t.0, y, t.1, t.2, l, rw (← s.start_is) (omega (arith, t.3)));
+        passes = λ e. absurd (true≢false e);
+      }

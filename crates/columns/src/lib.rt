@@ -24,6 +24,7 @@ pub fn sweep(w: usize, h: usize, a: usize, b: usize, picture: &[u8], words: &mut
 }
 
 // 5, of a band: some byte of it is neither 0 nor 1.
+#[tactic(auto, using(crate::proofs::Testing::bad_row))]
 pub fn bad_band(w: usize, h: usize, a: usize, b: usize, picture: &[u8]) -> bool
     requires { Band w h a b × (length picture.now ≡ w * h) }
     ensures { BadBand w h a b picture.now result }

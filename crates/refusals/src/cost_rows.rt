@@ -5,6 +5,7 @@ ghost use Rattle.rules.specs.Refusals.{answer, any, bad_cost, all_marked, cost_r
 use rules::{COST_KIND_LIMIT, COST_LIMIT, MARK};
 
 // A cost that is neither at most the limit nor the mark.
+#[tactic(auto, unfolding(rules::specs::Refusals::bad_cost))]
 fn bad_cost(cost: u32) -> bool
     ensures { result ≡ bad_cost cost }
 {
@@ -29,6 +30,7 @@ fn bad_costs(costs: &[u32]) -> bool
 }
 
 // 6: every cell is marked.
+#[tactic(auto, using(crate::proofs::Costs::unmarked_here))]
 fn all_marked(costs: &[u32]) -> bool
     ensures { result ≡ all_marked costs.now }
 {
@@ -44,6 +46,7 @@ fn all_marked(costs: &[u32]) -> bool
 
 // The number of the first row of the table that holds of a cost call, 0 for none: 1, 2, 4, 5, 6 in this order. The
 // buffers go by their lengths.
+#[tactic(auto, unfolding(rules::specs::Refusals::bad_sides, rules::specs::Refusals::bad_kind))]
 pub fn cost_refusal(
     w: u32,
     h: u32,

@@ -12,6 +12,7 @@ pub struct LaneAsked {
 }
 
 // The number of the first row of the table that holds of a lane call, 0 for none. The buffers go by their lengths.
+#[tactic(auto, unfolding(rules::specs::Refusals::bad_sides, rules::specs::Refusals::bad_path, rules::specs::Refusals::bad_ends))]
 pub fn lane_refusal(
     a: LaneAsked,
     picture: &[u8],

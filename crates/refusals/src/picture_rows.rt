@@ -15,6 +15,7 @@ pub struct PictureAsked {
 }
 
 // The number of the first row of the table that holds of a picture call, 0 for none. The buffers go by their lengths.
+#[tactic(auto, unfolding(rules::specs::Refusals::bad_sides, rules::specs::Refusals::bad_kind))]
 pub fn picture_refusal(
     a: PictureAsked,
     picture: &[u8],

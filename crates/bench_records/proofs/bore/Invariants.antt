@@ -1,13 +1,8 @@
 -- `bench_records::bore` meets its contract. The loop's invariant: the records before i are bored. The measure is what
 -- is left of the file. Assumes nothing.
-use mathlib.Core.Path.{◌∙◌, sym}
-use Prim.Native.Nat.{◌+◌, ◌-◌, ◌<◌}
-use native.Mathlib.Omega.{arith}
+use Prim.Native.Nat.{◌-◌}
 use lib.ListN.{length}
-use Rattle.rules.specs.Limits.{bench_side}
-use Rattle.bench_records.proofs.FileRecords.{coordinate_at, record_inside}
-use Rattle.bench_records.proofs.Counting.{bores_few}
-use Rattle.bench_records.proofs.Boring.{Boring, boring_none, boring_more, boring_all}
+use Rattle.bench_records.proofs.Boring.{Boring}
 use Rattle.bench_records.proofs.bore.Given as goal
 
 abbrev pub invariant-loop-i : goal.invariant-loop-i

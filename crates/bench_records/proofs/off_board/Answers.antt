@@ -1,14 +1,10 @@
-use mathlib.Core.Path.{◌≡◌, refl, ◌∙◌, sym}
-use Prim.Native.Nat.{◌-◌, ◌≤◌}
+use mathlib.Core.Path.{◌∙◌, sym}
 use native.Mathlib.Omega.{arith}
-use lib.ListN.{length, drop, length-drop}
+use lib.ListN.{drop, length-drop}
 use Rattle.rules.specs.BenchFile.{off_board}
 use Rattle.rules.proofs.Refusals.{holds_unless}
 use Rattle.bench_records.proofs.FileRecords.{record_inside, record_passes, off_board_end}
 use Rattle.bench_records.proofs.off_board.Goals as goal
-
-pub loop-i-init : goal.loop-i-init
-loop-i-init c = (refl, omega arith)
 
 pub returns-then-coordinate-ge-BOARD_SIDE : goal.returns-then-coordinate-ge-BOARD_SIDE
 returns-then-coordinate-ge-BOARD_SIDE c =

@@ -1,12 +1,9 @@
 -- `bench_records::off_board` meets its contract. The loop's invariant: 11 holds of the file where it holds of the
 -- records from i on. The measure is what is left of the file. Assumes nothing.
-use mathlib.Core.Path.{◌≡◌, refl, ◌∙◌, sym}
+use mathlib.Core.Path.{◌≡◌}
 use Prim.Native.Nat.{◌-◌, ◌≤◌}
-use native.Mathlib.Omega.{arith}
-use lib.ListN.{length, drop, length-drop}
+use lib.ListN.{length, drop}
 use Rattle.rules.specs.BenchFile.{off_board}
-use Rattle.rules.proofs.Refusals.{holds_unless}
-use Rattle.bench_records.proofs.FileRecords.{record_inside, record_passes, off_board_end}
 use Rattle.bench_records.proofs.off_board.Given as goal
 
 abbrev pub invariant-loop-i : goal.invariant-loop-i

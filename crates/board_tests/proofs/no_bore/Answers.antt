@@ -1,20 +1,13 @@
 use mathlib.Core.Path.{sym}
 use native.Mathlib.Omega.{arith}
-use borrow.Author.Count.{below_more}
 use Rattle.rules.specs.Refusals.{no_bore}
 use Rattle.rules.proofs.Refusals.{holds_unless, bore_passes, bore_good}
 use Rattle.board_tests.proofs.no_bore.Goals as goal
-
-pub loop-i-init : goal.loop-i-init
-loop-i-init c = (λ k h. absurd (omega arith), omega arith)
 
 pub returns-then-picture-i-eq1 : goal.returns-then-picture-i-eq1
 returns-then-picture-i-eq1 c =
     let l = c.args.picture.now in
     sym (bore_good l (c.loop-i.i, c.loop-i-test.true, c.if-picture-i-eq1.true))
-
-pub loop-i-preserved : goal.loop-i-preserved
-loop-i-preserved c = (below_more _ _ c.loop-i.invariant.0 c.if-picture-i-eq1.false, omega arith)
 
 pub returns : goal.returns
 returns c =

@@ -1,9 +1,7 @@
 -- `columns::bad_band` meets its contract. The loop's invariant: every byte of the band in the rows before y is at
 -- most 1, and row y begins at `start`. The measure is the number of rows left. Assumes nothing.
 use Prim.Native.Nat.{◌-◌}
-use native.Mathlib.Omega.{arith}
-use Rattle.rules.proofs.Board.{row_ends}
-use Rattle.columns.proofs.Testing.{Clean, clean_start, clean_more, bad_row, clean_end}
+use Rattle.columns.proofs.Testing.{Clean}
 use Rattle.columns.proofs.bad_band.Given as goal
 
 abbrev pub invariant-loop-y : goal.invariant-loop-y

@@ -1,6 +1,5 @@
 -- `columns::sweep` meets its contract: a band swept down and then up has its columns' words. Assumes nothing.
 use Rattle.columns.proofs.Bands.{swept}
-use borrow.Author.Rules.{rules}
 use Rattle.columns.proofs.sweep.Goals as goal
 
 pub returns : goal.returns

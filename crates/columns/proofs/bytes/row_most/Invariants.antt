@@ -1,8 +1,7 @@
 -- `columns::bytes::row_most` meets its contract. The loop's invariant: `most` is the greatest byte before column x. The
 -- measure is the number of columns left. Assumes nothing.
 use Prim.Native.Nat.{◌-◌}
-use native.Mathlib.Omega.{arith}
-use Rattle.columns.proofs.Testing.{Seeing, seeing_start, seeing_more, seeing_end}
+use Rattle.columns.proofs.Testing.{Seeing}
 use Rattle.columns.proofs.bytes.row_most.Given as goal
 
 abbrev pub invariant-loop-x : goal.invariant-loop-x

@@ -1,10 +1,8 @@
 -- `columns::down::down_row` meets its contract. The loop's invariant: the row is filled up to column x, so the row
 -- over it is as it was. The measure is the number of columns left. Assumes nothing.
 use Prim.Native.Nat.{◌-◌}
-use native.Mathlib.Omega.{arith}
 use Rattle.columns.specs.Rows.{Stepped}
-use Rattle.columns.proofs.Rows.{Filling, filling_start, filling_end}
-use Rattle.columns.proofs.Lowering.{stepped}
+use Rattle.columns.proofs.Rows.{Filling}
 use Rattle.columns.proofs.down.down_row.Given as goal
 
 abbrev pub invariant-loop-x : goal.invariant-loop-x

@@ -1,9 +1,7 @@
 -- `columns::down::down_rows` meets its contract. The loop's invariant: the rows before y are done, and row y begins at
 -- `start`. The measure is the number of cells left. Assumes nothing.
-use mathlib.Core.Path.{◌∙◌}
-use Prim.Native.Nat.{◌-◌, ◌*◌, ◌<◌}
-use native.Mathlib.Omega.{arith}
-use Rattle.columns.proofs.Lowering.{Lowering, top_inside, lowering_start, two_rows, lowering_more, lowering_end}
+use Prim.Native.Nat.{◌-◌, ◌*◌}
+use Rattle.columns.proofs.Lowering.{Lowering}
 use Rattle.columns.proofs.down.down_rows.Given as goal
 
 abbrev pub invariant-loop-start : goal.invariant-loop-start

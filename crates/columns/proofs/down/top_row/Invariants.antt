@@ -1,9 +1,8 @@
 -- `columns::down::top_row` meets its contract. The loop's invariant: the row is filled up to column x. The measure is
 -- the number of columns left. Assumes nothing.
 use Prim.Native.Nat.{◌-◌}
-use native.Mathlib.Omega.{arith}
 use Rattle.columns.specs.Rows.{Topped}
-use Rattle.columns.proofs.Rows.{Filling, filling_start, filling_more, filling_end}
+use Rattle.columns.proofs.Rows.{Filling}
 use Rattle.columns.proofs.down.top_row.Given as goal
 
 abbrev pub invariant-loop-x : goal.invariant-loop-x

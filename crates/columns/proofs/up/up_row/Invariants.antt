@@ -1,10 +1,8 @@
 -- `columns::up::up_row` meets its contract. The loop's invariant: the row is filled up to column x, so the rest of it
 -- and the row below are as they were. The measure is the number of columns left. Assumes nothing.
 use Prim.Native.Nat.{◌+◌, ◌-◌}
-use native.Mathlib.Omega.{arith}
 use Rattle.columns.specs.Rows.{Lifted}
-use Rattle.columns.proofs.Rows.{Filling, filling_start, filling_end}
-use Rattle.columns.proofs.Raising.{lifted}
+use Rattle.columns.proofs.Rows.{Filling}
 use Rattle.columns.proofs.up.up_row.Given as goal
 
 abbrev pub invariant-loop-x : goal.invariant-loop-x

@@ -1,9 +1,6 @@
 -- `columns::up::up_rows` meets its contract. The loop's invariant: the rows from y on are done, and row y begins at
 -- `start`. The measure is `start`. Assumes nothing.
-use native.Mathlib.Omega.{arith}
-use Rattle.columns.specs.Bands.{Band}
-use Rattle.columns.proofs.Raising.{Raising, last_inside, raising_start, row_over, two_rows_up, raising_more}
-use Rattle.columns.proofs.Raising.{raising_end}
+use Rattle.columns.proofs.Raising.{Raising}
 use Rattle.columns.proofs.up.up_rows.Given as goal
 
 abbrev pub invariant-loop-start : goal.invariant-loop-start

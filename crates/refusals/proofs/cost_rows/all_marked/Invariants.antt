@@ -1,13 +1,9 @@
 -- `refusals::cost_rows::all_marked` meets its contract. The loop's invariant: every cost before i is the mark. The measure
 -- is what is left of the costs. Assumes nothing.
-use mathlib.Core.Path.{◌≡◌, sym}
+use mathlib.Core.Path.{◌≡◌}
 use Prim.Native.Nat.{ℕ, ◌-◌, ◌≤◌, ◌<◌}
-use native.Mathlib.Omega.{arith}
 use lib.ListN.{length, get_or}
-use borrow.Author.Count.{below_more}
 use Rattle.rules.specs.Limits.{mark}
-use Rattle.rules.specs.Refusals.{all_marked}
-use Rattle.rules.proofs.Refusals.{holds_unless, unmarked_passes, unmarked_good}
 use Rattle.refusals.proofs.cost_rows.all_marked.Given as goal
 
 abbrev pub invariant-loop-i : goal.invariant-loop-i

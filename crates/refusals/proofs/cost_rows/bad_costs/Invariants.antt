@@ -1,13 +1,10 @@
 -- `refusals::cost_rows::bad_costs` meets its contract. The loop's invariant: no cost before i is bad. The measure is what
 -- is left of the costs. Assumes nothing.
-use mathlib.Core.Path.{◌≡◌, sym, ◌∙◌}
+use mathlib.Core.Path.{◌≡◌}
 use mathlib.Core.Bool.{false}
 use Prim.Native.Nat.{ℕ, ◌-◌, ◌≤◌, ◌<◌}
-use native.Mathlib.Omega.{arith}
 use lib.ListN.{length, get_or}
-use borrow.Author.Count.{below_more}
 use Rattle.rules.specs.Refusals.{bad_cost}
-use Rattle.rules.proofs.Refusals.{any_here, any_none}
 use Rattle.refusals.proofs.cost_rows.bad_costs.Given as goal
 
 abbrev pub invariant-loop-i : goal.invariant-loop-i

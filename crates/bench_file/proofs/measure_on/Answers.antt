@@ -10,7 +10,6 @@ use Rattle.rules.specs.BenchFile.{bored_by}
 use Rattle.rules.specs.Refusals.{no_bore}
 use Rattle.bench_file.specs.Reading.{Peak}
 use Rattle.bench_file.proofs.Answering.{six, read_call, picture_of, count_of, map_accepted, farthest_of}
-use borrow.Author.Rules.{rules}
 use Rattle.bench_file.proofs.measure_on.Goals.{After-bore-bores, Else-no_bore}
 use Rattle.bench_file.proofs.measure_on.Goals as goal
 

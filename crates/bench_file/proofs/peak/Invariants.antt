@@ -1,12 +1,8 @@
 -- `bench_file::peak` meets its contract. The loop's invariant: `best` is the peak of the words before k. The measure is what
 -- is left of the words. Assumes nothing.
-use mathlib.Core.Path.{◌≡◌, sym, subst}
-use mathlib.Core.Logic.{⊎_elim}
-use Prim.Native.Nat.{◌+◌, ◌-◌, ◌≤◌}
-use native.Mathlib.Omega.{arith}
+use Prim.Native.Nat.{◌-◌, ◌≤◌}
 use lib.ListN.{length}
 use Rattle.bench_file.specs.Reading.{Peak}
-use Rattle.bench_file.proofs.Peaks.{peak_one, peak_stays, peak_moves}
 use Rattle.bench_file.proofs.peak.Given as goal
 
 abbrev pub invariant-loop-k : goal.invariant-loop-k

@@ -2,7 +2,6 @@
 -- the measuring answers. Assumes nothing.
 use mathlib.Core.Path.{◌∙◌, sym}
 use Rattle.bench_file.proofs.Answering.{ten, eleven}
-use borrow.Author.Rules.{rules}
 use Rattle.bench_file.proofs.read_file.Goals as goal
 
 pub returns-then-cut : goal.returns-then-cut

@@ -1,8 +1,9 @@
 // The bench program: a bench file on standard input, its three numbers or its refusal on standard output.
 #![tactic(auto)]
 
-ghost use Rattle.std.specs.Prelude.{◌<◌, length};
+ghost use Rattle.std.specs.Prelude.{◌<◌, length, take, IfOk};
 ghost use Rattle.std.specs.Io.{ReadsAtMost};
+ghost use Rattle.std.specs.Io.KnownBytes.{Consumes, IsAtEnd};
 ghost use Rattle.rules.specs.Limits.{file_limit};
 
 use rules::FILE_LIMIT;
@@ -16,10 +17,12 @@ mod text;
 const ROOM: usize = FILE_LIMIT + 1;
 
 // Reads the input, in as many pieces as it comes, until it ends or the room is full: how many bytes. The room is longer
-// than any file may be, so that no file is taken for a shorter one. A read that fails ends the program.
-fn read_input(input: &mut impl Read, room: &mut [u8]) -> io::Result<usize>
+// than any file may be, so that no file is taken for a shorter one. A read that fails is an error.
+fn read_input<R: Read>(input: &mut R, room: &mut [u8]) -> io::Result<usize>
     requires { file_limit < length room.old }
-    ensures { ReadsAtMost result room.new }
+    ensures within { ReadsAtMost result room.new }
+    ensures bytes { IfOk result (λ n. Consumes (R.remaining input.old) (R.remaining input.new) (take n room.new)) }
+    ensures whole { IfOk result (λ n. n < length room.new → IsAtEnd (R.remaining input.new)) }
 {
     let mut n = 0;
     while n < room.len() {

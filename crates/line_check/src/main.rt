@@ -89,9 +89,10 @@ fn try_kind(kind: u32, lines: u64, seed: &mut u64) -> Tally
 
 // "10000 lines, 500000 places, 0 wrong"
 fn print_tally(rt: &impl Print, lines: u64, tally: Tally) -> io::Result<()> {
-    let places = tally.places;
-    let wrong = tally.wrong;
-    print!(rt; "{lines} lines, {places} places, {wrong} wrong")
+    print!(rt;
+        "{lines} lines, {} places, {} wrong",
+        tally.places, tally.wrong
+    )
 }
 
 // The lines of one kind, tried and printed.

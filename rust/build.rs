@@ -5,7 +5,8 @@ use std::path::Path;
 
 fn main() {
     println!("cargo:rerun-if-env-changed=OLV_ARCHIVE_DIR");
-    let named = std::env::var_os("OLV_ARCHIVE_DIR").unwrap_or_else(|| "../crates/olavinthu/out".into());
+    let named = std::env::var_os("OLV_ARCHIVE_DIR");
+    let named = named.unwrap_or_else(|| "../crates/olavinthu/out".into());
     let folder = Path::new(env!("CARGO_MANIFEST_DIR")).join(named);
     let archive = folder.join("libolavinthu.a");
     println!("cargo:rerun-if-changed={}", archive.display());

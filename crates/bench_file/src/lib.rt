@@ -75,6 +75,7 @@ fn measure(file: &[u8]) -> BenchAnswer
 
 // How many cells a bench file bores, the greatest kind 0 word and the first cell that has it, or the number of the first
 // row of the table that holds: 10, 11, 6 in this order.
+#[tactic(auto, using(crate::proofs::Answering::ten, crate::proofs::Answering::eleven))]
 pub fn read_file(file: &[u8]) -> BenchAnswer
     ensures { BenchCall file.now (bench_number result) (bench_sites result) (bench_farthest result) (bench_cell result) }
 {

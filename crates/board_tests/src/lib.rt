@@ -53,7 +53,7 @@ pub fn scratch_words(w: usize, h: usize) -> usize
     w * h + 2 * w + 2 * h
 }
 
-// 4: the picture has another length than W.H, or a buffer is below its minimum.
+// 4: the picture has another length than W·H, or a buffer is below its minimum.
 #[tactic(auto, unfolding(rules::specs::Refusals::bad_buffers))]
 pub fn bad_buffers(
     w: usize,

@@ -48,6 +48,7 @@ fn accepted_map(
 }
 
 // The map of a cost picture, of kind 0 or 1: 0 where it is made, or the number of the first row of the table that holds.
+#[tactic(auto, using(rules::proofs::Calls::refused_call))]
 pub fn cost_map(
     w: u32,
     h: u32,

@@ -43,6 +43,7 @@ fn accepted_lane(
 
 // The widest lane from one cell to another: its width and its number of cells, or the number of the first row of the
 // table that holds.
+#[tactic(auto, using(rules::proofs::Calls::refused_call))]
 pub fn widest(
     w: u32,
     h: u32,

@@ -86,6 +86,7 @@ fn accepted_map(
 }
 
 // The map of a picture: 0 where it is made, or the number of the first row of the table that holds.
+#[tactic(auto, using(rules::proofs::Calls::refused_call))]
 pub fn picture_map(
     w: u32,
     h: u32,

@@ -15,6 +15,7 @@ use rules::{LINE_LIMIT, MARK, as_index};
 
 // What a column word stands for in row y: its difference of rows lifted, or a value above every true one for a column with
 // no feature.
+#[tactic(auto, using(crate::proofs::Values::marked_value))]
 fn value(g: Gauge, squares: &[u32], y: usize, word: u32) -> u64
     requires { Measuring g squares.now × (y < side_limit) × Named side_limit word }
     ensures { result ≡ value_of g y word }

@@ -1,15 +1,16 @@
 -- `maps::picture_map` meets its contract: a call that is refused leaves everything, and past the tests the map is made.
 -- Assumes nothing.
-use mathlib.Core.Path.{refl, sym, ◌∙◌}
+use Rattle.std.proofs.Common.{◌≡◌, sym, ◌∙◌, rules}
 use Rattle.rules.proofs.Refusals.{picture_accepted}
 use Rattle.rules.proofs.Calls.{refused_call, made_call}
 use Rattle.maps.proofs.picture_map.Goals as goal
 
-pub returns-then-refused-ne0 : goal.returns-then-refused-ne0
-returns-then-refused-ne0 c = refused_call c.picture_refusal-refused.ensures c.if-refused-ne0.true refl
-
 pub accepted_map-requires : goal.accepted_map-requires
-accepted_map-requires c = picture_accepted _ _ _ _ _ _ _ _ _ (sym c.picture_refusal-refused.ensures ∙ c.if-refused-ne0.false)
+accepted_map-requires c =
+    let none : c.picture_refusal-refused.result ≡ 0 = search rules in
+    picture_accepted _ _ _ _ _ _ _ _ _ (sym c.picture_refusal-refused.ensures ∙ none)
 
 pub returns : goal.returns
-returns c = made_call (sym c.if-refused-ne0.false ∙ c.picture_refusal-refused.ensures) c.accepted_map.ensures
+returns c =
+    let none : c.picture_refusal-refused.result ≡ 0 = search rules in
+    made_call (sym none ∙ c.picture_refusal-refused.ensures) c.accepted_map.ensures

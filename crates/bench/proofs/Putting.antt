@@ -1,5 +1,5 @@
--- Bytes put in front of a place, the last one first: each store puts a byte in front of what was put before it. The digits
--- of a number come in that order by themselves. Assumes nothing.
+-- Digits put in front of a place, the last one first: each store puts one in front of what was put before it, and in that
+-- order they come by themselves. Assumes nothing.
 use mathlib.Core.Path.{◌≡◌, refl, ◌∙◌, sym, ap}
 use mathlib.Core.List.{List, ◌∷◌, ◌++◌}
 use Prim.Native.Nat.{ℕ, zero, suc, ◌+◌, ◌-◌, ◌/◌, ◌%◌, ◌^◌, ◌≤◌, ◌<◌}
@@ -8,12 +8,6 @@ use lib.ListN.{length, set, drop, length-set}
 use borrow.Author.Tests.{le-ltb}
 use Rattle.rules.specs.BenchFile.{digits}
 use Rattle.rules.proofs.Digits.{tenth_below, stored}
-
--- the bytes from i on have been put
-pub record Putting (end at : ℕ) (bytes before now : List ℕ) (i : ℕ) : Type 0 where
-  pub within : i ≤ length bytes
-  pub as_long : length now ≡ length before
-  pub reads : drop (at + i) now ≡ drop i bytes ++ drop end before
 
 -- a number that is not below 10 has its last digit behind those of its tenth
 more_digits : (left rest : ℕ) (after : List ℕ) → 10 ≤ rest

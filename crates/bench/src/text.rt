@@ -3,28 +3,24 @@ ghost use Rattle.std.specs.Prelude.{◌+◌, ◌≤◌, length};
 ghost use Rattle.bench.specs.Putting.{Put, PutNumber, PutLine, text_room, TextWritten};
 
 use bench_file::read_file;
-use rules::BenchAnswer;
+use rules::answers::Reading;
 
 // Room for any answer: three words, and for each a space, at most ten digits and the line's end.
 pub const TEXT: usize = 5 + 8 + 4 + 3 * 12;
 // The byte of the digit 0; those of 1 to 9 follow it.
 const ZERO: u32 = 48;
 
-// Puts the bytes in front of the place `end`: where they begin.
+// Puts the bytes in front of the place `end`: where they begin. A buffer with a place in it, since there is no heap.
 fn put(out: &mut [u8], end: usize, bytes: &[u8]) -> usize
     requires { (length bytes.now ≤ end) × (end ≤ length out.old) }
     ensures { Put end bytes.now out.old out.new result }
 {
     let at = end - bytes.len();
-    let mut i = bytes.len();
-    while 0 < i {
-        i -= 1;
-        out[at + i] = bytes[i];
-    }
+    out[at..end].copy_from_slice(bytes);
     at
 }
 
-// The same with the digits of a number.
+// The same with the digits of a number, one by one: so they are promised (`PutNumber`), and so `digits_from_one` bends them.
 fn put_number(out: &mut [u8], end: usize, number: u32) -> usize
     requires { (10 ≤ end) × (end ≤ length out.old) }
     ensures { PutNumber end number out.old out.new result }
@@ -58,17 +54,18 @@ pub fn file_text(file: &[u8], out: &mut [u8]) -> usize
     ensures { TextWritten file.now out.new result }
 {
     let end = out.len();
-    let answer = read_file(file);
-    match answer {
-        BenchAnswer::Read {
-            sites,
-            farthest,
-            cell,
-        } => {
+    match read_file(file) {
+        Ok(
+            Reading {
+                sites,
+                farthest,
+                cell,
+            },
+        ) => {
             let third = put_line(out, end, b"cell", cell);
             let second = put_line(out, third, b"farthest", farthest);
             put_line(out, second, b"sites", sites)
         }
-        BenchAnswer::Refused(number) => put_line(out, end, b"refused", number),
+        Err(refusal) => put_line(out, end, b"refused", u32::from(refusal)),
     }
 }

@@ -3,13 +3,16 @@
 #![tactic(auto)]
 
 ghost use Rattle.std.specs.Prelude.{◌<◌, length};
-ghost use Rattle.rules.specs.Answers.{bench_number, bench_sites, bench_farthest, bench_cell};
+ghost use Rattle.rules.specs.Answers.{number_of, bench_sites, bench_farthest, bench_cell};
 ghost use Rattle.rules.specs.Calls.{BenchCall};
 ghost use Rattle.bench_file.specs.Reading.{Readable, Ready, Peak};
 
 use bench_records::{BOARD_SIDE, bad_length, bore, off_board};
 use maps::row_map;
-use rules::BenchAnswer;
+use rules::answers::Reading;
+use rules::kind::LineKind;
+use rules::refusal::Refusal;
+use rules::sized::Board;
 
 // The cells of the board.
 const CELLS: usize = BOARD_SIDE * BOARD_SIDE;
@@ -22,12 +25,10 @@ fn peak(words: &[u32]) -> usize
     ensures { Peak words.now (length words.now) result }
 {
     let mut best = 0;
-    let mut k = 1;
-    while k < words.len() {
+    for k in 1..words.len() {
         if words[best] < words[k] {
             best = k;
         }
-        k += 1;
     }
     best
 }
@@ -39,32 +40,34 @@ fn measure_on(
     distances: &mut [u32],
     sites: &mut [u32],
     scratch: &mut [u32],
-) -> BenchAnswer
+) -> Result<Reading, Refusal>
     requires { Readable file.now
         × Ready picture.old (length distances.old) (length sites.old) (length scratch.old) }
-    ensures { BenchCall file.now (bench_number result) (bench_sites result) (bench_farthest result) (bench_cell result) }
+    ensures { BenchCall file.now (number_of result) (bench_sites result) (bench_farthest result) (bench_cell result) }
 {
     let bores = bore(file, picture);
     if board_tests::no_bore(picture) {
-        return BenchAnswer::Refused(6);
+        return Err(Refusal::NoBore);
     }
-    row_map(
-        BOARD_SIDE, BOARD_SIDE, 0, picture, distances, sites, scratch,
-    );
+    let board = Board {
+        w: BOARD_SIDE,
+        h: BOARD_SIDE,
+    };
+    row_map(board, LineKind::Euclid, picture, distances, sites, scratch);
     let number = peak(distances);
     let farthest = distances[number];
     let cell = number as u32;
-    BenchAnswer::Read {
+    Ok(Reading {
         sites: bores,
         farthest,
         cell,
-    }
+    })
 }
 
 // The same in memory of its own.
-fn measure(file: &[u8]) -> BenchAnswer
+fn measure(file: &[u8]) -> Result<Reading, Refusal>
     requires { Readable file.now }
-    ensures { BenchCall file.now (bench_number result) (bench_sites result) (bench_farthest result) (bench_cell result) }
+    ensures { BenchCall file.now (number_of result) (bench_sites result) (bench_farthest result) (bench_cell result) }
 {
     let mut picture = [0u8; CELLS];
     let mut distances = [0u32; CELLS];
@@ -73,20 +76,20 @@ fn measure(file: &[u8]) -> BenchAnswer
     measure_on(file, &mut picture, &mut distances, &mut sites, &mut scratch)
 }
 
-// How many cells a bench file bores, the greatest kind 0 word and the first cell that has it, or the number of the first
-// row of the table that holds: 10, 11, 6 in this order.
+// How many cells a bench file bores, the greatest kind 0 word and the first cell that has it, or the first row of the table
+// that refuses it: 10, 11, 6 in this order.
 #[tactic(auto, using(crate::proofs::Answering::ten, crate::proofs::Answering::eleven))]
-pub fn read_file(file: &[u8]) -> BenchAnswer
-    ensures { BenchCall file.now (bench_number result) (bench_sites result) (bench_farthest result) (bench_cell result) }
+pub fn read_file(file: &[u8]) -> Result<Reading, Refusal>
+    ensures { BenchCall file.now (number_of result) (bench_sites result) (bench_farthest result) (bench_cell result) }
 {
     // both tests take any bytes, and the length's is asked first
     let cut = bad_length(file.len());
     let off = off_board(file);
     if cut {
-        return BenchAnswer::Refused(10);
+        return Err(Refusal::FileLength);
     }
     if off {
-        return BenchAnswer::Refused(11);
+        return Err(Refusal::OffBoard);
     }
     measure(file)
 }

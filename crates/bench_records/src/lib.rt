@@ -2,7 +2,8 @@
 // of its bytes, and the picture that its records bore: all that reads the bytes, and nothing that knows of maps.
 #![tactic(auto)]
 
-ghost use Rattle.std.specs.Prelude.{◌+◌, ◌*◌, ◌<◌, ◌≡◌, false, length, get_or};
+ghost use Rattle.std.specs.Prelude.{◌*◌, ◌<◌, ◌≡◌, false, length};
+ghost use Rattle.std.specs.Int.{from_bool};
 ghost use Rattle.rules.specs.Limits.{bench_side};
 ghost use Rattle.rules.specs.BenchFile.{u16_of, off_board};
 ghost use Rattle.rules.specs.Refusals.{bad_length};
@@ -18,63 +19,51 @@ pub const BOARD_SIDE: usize = BENCH_SIDE as usize;
 pub fn bad_length(bytes: usize) -> bool
     ensures { result ≡ bad_length bytes }
 {
-    if bytes % 4 != 0 {
-        return true;
-    }
-    FILE_LIMIT < bytes
+    bytes % 4 != 0 || FILE_LIMIT < bytes
 }
 
-// The coordinate whose two bytes begin at the place i.
-fn coordinate(file: &[u8], i: usize) -> usize
-    requires { i + 1 < length file.now }
-    ensures { result ≡ u16_of (get_or file.now i 0) (get_or file.now (i + 1) 0) }
+// The coordinate of two bytes.
+fn coordinate(low: u8, high: u8) -> usize
+    ensures { result ≡ u16_of low high }
 {
-    let low = file[i] as usize;
-    let high = file[i + 1] as usize;
-    low + 256 * high
+    usize::from(u16::from_le_bytes([low, high]))
 }
 
 // 11: a coordinate of some record is off the board. Fewer than 4 bytes at the end are no record.
 pub fn off_board(file: &[u8]) -> bool
     ensures { result ≡ off_board file.now }
 {
-    let mut i = 0;
-    while 4 <= file.len() - i {
-        if BOARD_SIDE <= coordinate(file, i) {
+    for record in file.chunks_exact(4) {
+        let x = coordinate(record[0], record[1]);
+        let y = coordinate(record[2], record[3]);
+        if BOARD_SIDE <= x || BOARD_SIDE <= y {
             return true;
         }
-        if BOARD_SIDE <= coordinate(file, i + 2) {
-            return true;
-        }
-        i += 4;
     }
     false
 }
 
-// Bores one cell: 1 where it was sound, 0 where it was bored before, so that a repeated record counts once.
-fn bore_cell(picture: &mut [u8], cell: usize) -> u32
+// Bores one cell, and answers whether it was sound, so that a repeated record counts once.
+fn bore_cell(picture: &mut [u8], cell: usize) -> bool
     requires { cell < length picture.old }
-    ensures { BoredCell cell picture.old picture.new result }
+    ensures { BoredCell cell picture.old picture.new (from_bool result) }
 {
-    if picture[cell] == 1 {
-        return 0;
-    }
+    let sound = picture[cell] != 1;
     picture[cell] = 1;
-    1
+    sound
 }
 
 // Bores the cell of each record in turn, and answers how many cells were sound before.
 pub fn bore(file: &[u8], picture: &mut [u8]) -> u32
-    requires { (off_board file.now ≡ false) × (length picture.old ≡ bench_side * bench_side) }
+    requires on_board { off_board file.now ≡ false }
+    requires picture_is { length picture.old ≡ bench_side * bench_side }
     ensures { BoredBy file.now picture.old picture.new result }
 {
     let mut bores = 0;
-    let mut i = 0;
-    while 4 <= file.len() - i {
-        let x = coordinate(file, i);
-        let y = coordinate(file, i + 2);
-        bores += bore_cell(picture, y * BOARD_SIDE + x);
-        i += 4;
+    for record in file.chunks_exact(4) {
+        let x = coordinate(record[0], record[1]);
+        let y = coordinate(record[2], record[3]);
+        bores += u32::from(bore_cell(picture, y * BOARD_SIDE + x));
     }
     bores
 }

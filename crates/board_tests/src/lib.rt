@@ -2,10 +2,13 @@
 // answers whether its row holds.
 #![tactic(auto)]
 
-ghost use Rattle.std.specs.Prelude.{◌≤◌, ◌≡◌};
+ghost use Rattle.std.specs.Prelude.{◌≤◌, ◌≡◌, IfOk};
 ghost use Rattle.rules.specs.Limits.{side_limit};
-ghost use Rattle.rules.specs.Refusals.{any, bad_sides, bad_weights, scratch_words, bad_buffers, bad_byte, no_bore};
+ghost use Rattle.rules.specs.Answers.{number_of};
+ghost use Rattle.rules.specs.Refusals.{answer, any, bad_sides, sides_rows, bad_weights, scratch_words, bad_buffers, bad_byte, no_bore};
 
+use rules::refusal::Refusal;
+use rules::sized::Board;
 use rules::{CHAMFER_KIND, SIDE_LIMIT, WEIGHT_LIMIT};
 
 // 1: a side is 0 or above the limit.
@@ -13,39 +16,34 @@ use rules::{CHAMFER_KIND, SIDE_LIMIT, WEIGHT_LIMIT};
 pub fn bad_sides(w: u32, h: u32) -> bool
     ensures { result ≡ bad_sides w h }
 {
-    if w == 0 {
-        return true;
-    }
-    if h == 0 {
-        return true;
-    }
-    if SIDE_LIMIT < w {
-        return true;
-    }
-    SIDE_LIMIT < h
+    w == 0 || h == 0 || SIDE_LIMIT < w || SIDE_LIMIT < h
 }
 
-// 3: kind 3, and the weights break their rule.
+// The board of these sides, or the row that refuses them.
+#[tactic(auto, unfolding(rules::specs::Refusals::bad_sides))]
+pub fn board_of(w: u32, h: u32) -> Result<Board, Refusal>
+    ensures number { number_of result ≡ answer (sides_rows w h) }
+    ensures board { IfOk result (λ board. (board.w ≡ w) × (board.h ≡ h)) }
+{
+    if bad_sides(w, h) {
+        return Err(Refusal::Sides);
+    }
+    Ok(Board {
+        w: w as usize,
+        h: h as usize,
+    })
+}
+
+// 3: kind 3, and the weights break their rule. The kind is a number: this is promised of every number.
 #[tactic(auto, unfolding(rules::specs::Refusals::bad_weights))]
 pub fn bad_weights(kind: u32, d1: u32, d2: u32) -> bool
     ensures { result ≡ bad_weights kind d1 d2 }
 {
-    if kind != CHAMFER_KIND {
-        return false;
-    }
-    if d1 < 1 {
-        return true;
-    }
-    if WEIGHT_LIMIT < d1 {
-        return true;
-    }
-    if d2 < d1 {
-        return true;
-    }
-    2 * d1 < d2
+    kind == CHAMFER_KIND && (d1 < 1 || WEIGHT_LIMIT < d1 || d2 < d1 || 2 * d1 < d2)
 }
 
-// "scratch (at least W·H + 2W + 2H)"
+// "scratch (at least W·H + 2W + 2H)". Of two numbers and no `Board`, here and in the next test: what they promise holds of a
+// side of 0, too, and a board would ask more.
 pub fn scratch_words(w: usize, h: usize) -> usize
     requires { (w ≤ side_limit) × (h ≤ side_limit) }
     ensures { result ≡ scratch_words w h }
@@ -67,43 +65,19 @@ pub fn bad_buffers(
     ensures { result ≡ bad_buffers w h picture distances sites scratch }
 {
     let cells = w * h;
-    if picture != cells {
-        return true;
-    }
-    if distances < cells {
-        return true;
-    }
-    if sites < cells {
-        return true;
-    }
-    scratch < scratch_words(w, h)
+    picture != cells || distances < cells || sites < cells || scratch < scratch_words(w, h)
 }
 
 // 5: a byte of the picture is neither 0 nor 1.
-#[tactic(auto, using(crate::proofs::Bytes::bad_here))]
 pub fn bad_bytes(picture: &[u8]) -> bool
     ensures { result ≡ any bad_byte picture.now }
 {
-    let mut i = 0;
-    while i < picture.len() {
-        if 1 < picture[i] {
-            return true;
-        }
-        i += 1;
-    }
-    false
+    picture.iter().any(|&byte| 1 < byte)
 }
 
 // 6: no cell of the picture is bored.
 pub fn no_bore(picture: &[u8]) -> bool
     ensures { result ≡ no_bore picture.now }
 {
-    let mut i = 0;
-    while i < picture.len() {
-        if picture[i] == 1 {
-            return false;
-        }
-        i += 1;
-    }
-    true
+    !picture.contains(&1)
 }

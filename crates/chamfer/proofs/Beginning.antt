@@ -13,8 +13,8 @@ use Rattle.rules.specs.Limits.{side_limit, weight_limit}
 use Rattle.rules.specs.Measures.{Weights, chamfer}
 use Rattle.rules.specs.Accepted.{Somewhere}
 use Rattle.rules.proofs.Table.{Walk, start, least}
-use Rattle.chamfer_turn.specs.declared.Board.{Board}
-use Rattle.chamfer_turn.specs.Neighbours.{far, Ruled, Words, On, word}
+use Rattle.chamfer_turn.specs.declared.weighted.Chamfer.{Chamfer}
+use Rattle.chamfer_turn.specs.Neighbours.{far, Words, On, word}
 use Rattle.chamfer.specs.Scans.{first_word, Begun}
 use Rattle.chamfer_turn.proofs.Cells.{has_word}
 use Rattle.chamfer.proofs.Bounds.{Bore, Held, Bounded}
@@ -44,7 +44,8 @@ first_most : (byte : ℕ) → first_word byte ≤ far
 first_most byte =
     by_cases (ℕ_discrete byte 1) (λ e. rw e (omega arith)) (λ n. omega (arith, sound_first byte n))
 
-module _ {b : Board} {picture words : List ℕ} (B : Begun picture words) (one_each : length words ≡ b.w * b.h) where
+module _ {b : Chamfer} {picture words : List ℕ} (B : Begun picture words)
+    (one_each : length words ≡ b.board.w * b.board.h) where
   -- the words before the scans
   pub first_words : Words b words
   first_words =
@@ -57,10 +58,10 @@ module _ {b : Board} {picture words : List ℕ} (B : Begun picture words) (one_e
       }
 
   -- the first word of a cell
-  at_cell : {x y : ℕ} → On b x y → word b words x y ≡ first_word (get_or picture (cell b.w x y) 0)
+  at_cell : {x y : ℕ} → On b x y → word b words x y ≡ first_word (get_or picture (cell b.board.w x y) 0)
   at_cell on = B.first _ (has_word first_words on)
 
-  module _ (r : Ruled b) (some : Somewhere b.w b.h (Bored b.w picture)) where
+  module _ (some : Somewhere b.board.w b.board.h (Bored b.board.w picture)) where
     -- the bore that there is
     a_bore : Bore b picture some.0 some.1
     a_bore = record { on_board = record { column_in = some.2; row_in = some.3 }; bored = some.4 }
@@ -68,14 +69,14 @@ module _ {b : Board} {picture words : List ℕ} (B : Begun picture words) (one_e
     -- a bore holds its own cell, and that bore every sound one
     held : (x y : ℕ) → On b x y → Held b picture x y (word b words x y)
     held x y on =
-        by_cases (ℕ_discrete (get_or picture (cell b.w x y) 0) 1)
+        by_cases (ℕ_discrete (get_or picture (cell b.board.w x y) 0) 1)
         (λ e.
-        let home : Walk b.w b.h b.d1 b.d2 x y x y 0 = start in
+        let home : Walk b.board.w b.board.h b.d1 b.d2 x y x y 0 = start in
         record {
           i = x;
           j = y;
           bore = record { on_board = on; bored = e };
-          no_farther = rw (at_cell on, e) (least r.weights home);
+          no_farther = rw (at_cell on, e) (least b.weights home);
         })
         (λ n.
         record {
@@ -83,9 +84,9 @@ module _ {b : Board} {picture words : List ℕ} (B : Begun picture words) (one_e
           j = some.1;
           bore = a_bore;
           no_farther =
-              rw (at_cell on, sound_first (get_or picture (cell b.w x y) 0) n)
-              (below_far r.weights (within_limit x some.0 on.column_in some.2 r.sides.width_to)
-              (within_limit y some.1 on.row_in some.3 r.sides.height_to));
+              rw (at_cell on, sound_first (get_or picture (cell b.board.w x y) 0) n)
+              (below_far b.weights (within_limit x some.0 on.column_in some.2 b.board.sides.width_to)
+              (within_limit y some.1 on.row_in some.3 b.board.sides.height_to));
         })
 
     -- the words before the scans are bounded

@@ -8,16 +8,16 @@ use native.Mathlib.Omega.{arith}
 use lib.ListN.{length, drop_of_length-le}
 use Rattle.rules.specs.Measures.{chamfer_kind}
 use Rattle.rules.specs.Tie.{MapWord}
-use Rattle.chamfer_turn.specs.declared.Board.{Board}
+use Rattle.chamfer_turn.specs.declared.weighted.Chamfer.{Chamfer}
 use Rattle.chamfer_turn.specs.Neighbours.{On, word}
 use Rattle.chamfer.specs.Scans.{Scanned}
 use Rattle.chamfer.proofs.Bounds.{Bounded}
 
 -- after both scans each word is the least of the closed form
-map_word : {b : Board} {picture words : List ℕ} {x y : ℕ}
+map_word : {b : Chamfer} {picture words : List ℕ} {x y : ℕ}
     → Bounded b picture words 2
     → On b x y
-    → MapWord chamfer_kind b.d1 b.d2 b.w b.h picture x y (word b words x y)
+    → MapWord chamfer_kind b.d1 b.d2 b.board.w b.board.h picture x y (word b words x y)
 map_word {x} {y} R on =
     let held = R.never_less x y on in
     record {
@@ -32,14 +32,14 @@ map_word {x} {y} R on =
     }
 
 -- the map is made in the board's words, and there are no others
-pub mapped : {b : Board} {picture before after : List ℕ}
+pub mapped : {b : Chamfer} {picture before after : List ℕ}
     → Bounded b picture after 2
-    → length after ≡ b.w * b.h
-    → length before ≡ b.w * b.h
-    → Scanned b.w b.h b.d1 b.d2 picture before after
+    → length after ≡ b.board.w * b.board.h
+    → length before ≡ b.board.w * b.board.h
+    → Scanned b.board.w b.board.h b.d1 b.d2 picture before after
 mapped {b} {before} {after} R e f =
-    let after_to : length after ≤ b.w * b.h = omega arith in
-    let before_to : length before ≤ b.w * b.h = omega arith in
+    let after_to : length after ≤ b.board.w * b.board.h = omega arith in
+    let before_to : length before ≤ b.board.w * b.board.h = omega arith in
     record {
       words = λ x y x_in y_in. map_word R (record { column_in = x_in; row_in = y_in });
       as_long = e ∙ sym f;

@@ -9,7 +9,7 @@ use lib.IntN.{pos, ◌+ℤ◌, -ℤ-+ℤ_cancel}
 use Rattle.rules.specs.Board.{cell}
 use Rattle.rules.specs.Table.{back, none, on}
 use Rattle.rules.proofs.Board.{cell_in}
-use Rattle.chamfer_turn.specs.declared.Board.{Board}
+use Rattle.chamfer_turn.specs.declared.weighted.Chamfer.{Chamfer}
 use Rattle.chamfer_turn.specs.Neighbours.{On, Neighbour}
 
 -- the two scans by their numbers; the steps of one are 4·scan .. 4·scan + 3
@@ -52,35 +52,35 @@ row_none w r at e = ap (λ n. n * w) (went_none r at e)
 row_on : (w r at : ℕ) → pos r ≡ pos at +ℤ on → r * w ≡ at * w + w
 row_on w r at e = omega (arith, ap (λ n. n * w) (went_on r at e))
 
-module _ {b : Board} {x y x' y' : ℕ} (here : On b x y) where
+module _ {b : Chamfer} {x y x' y' : ℕ} (here : On b x y) where
   -- a forward step leads up, or to the left
-  forward_earlier : (k : ℕ) → k < 4 → Neighbour b k x y x' y' → cell b.w x' y' < cell b.w x y
+  forward_earlier : (k : ℕ) → k < 4 → Neighbour b k x y x' y' → cell b.board.w x' y' < cell b.board.w x y
   forward_earlier zero l n =
-      omega (arith, row_back b.w y' y n.leads.down, went_back x' x n.leads.across)
+      omega (arith, row_back b.board.w y' y n.leads.down, went_back x' x n.leads.across)
   forward_earlier (suc zero) l n =
-      omega (arith, row_back b.w y' y n.leads.down, went_none x' x n.leads.across)
+      omega (arith, row_back b.board.w y' y n.leads.down, went_none x' x n.leads.across)
   forward_earlier (suc (suc zero)) l n =
-      omega (arith, row_back b.w y' y n.leads.down, went_on x' x n.leads.across)
+      omega (arith, row_back b.board.w y' y n.leads.down, went_on x' x n.leads.across)
   forward_earlier (suc (suc (suc zero))) l n =
-      omega (arith, row_none b.w y' y n.leads.down, went_back x' x n.leads.across)
+      omega (arith, row_none b.board.w y' y n.leads.down, went_back x' x n.leads.across)
   forward_earlier (suc (suc (suc (suc k)))) l n = absurd (omega arith)
 
   -- a backward step leads down, or to the right
   backward_earlier : (k : ℕ) → k < 4 → Neighbour b (suc (suc (suc (suc k)))) x y x' y'
-      → cell b.w x y < cell b.w x' y'
+      → cell b.board.w x y < cell b.board.w x' y'
   backward_earlier zero l n =
-      omega (arith, row_none b.w y' y n.leads.down, went_on x' x n.leads.across)
+      omega (arith, row_none b.board.w y' y n.leads.down, went_on x' x n.leads.across)
   backward_earlier (suc zero) l n =
-      omega (arith, row_on b.w y' y n.leads.down, went_back x' x n.leads.across)
+      omega (arith, row_on b.board.w y' y n.leads.down, went_back x' x n.leads.across)
   backward_earlier (suc (suc zero)) l n =
-      omega (arith, row_on b.w y' y n.leads.down, went_none x' x n.leads.across)
+      omega (arith, row_on b.board.w y' y n.leads.down, went_none x' x n.leads.across)
   backward_earlier (suc (suc (suc zero))) l n =
-      omega (arith, row_on b.w y' y n.leads.down, went_on x' x n.leads.across)
+      omega (arith, row_on b.board.w y' y n.leads.down, went_on x' x n.leads.across)
   backward_earlier (suc (suc (suc (suc k)))) l n = absurd (omega arith)
 
   -- a scan comes to the neighbours by its own steps first
   pub earlier : (scan k : ℕ) → scan < 2 → 4 * scan ≤ k → k < 4 * scan + 4 → Neighbour b k x y x' y'
-      → Before scan (cell b.w x' y') (cell b.w x y)
+      → Before scan (cell b.board.w x' y') (cell b.board.w x y)
   earlier zero k s f t n = forward_earlier k t n
   earlier (suc zero) zero s f t n = absurd (omega arith)
   earlier (suc zero) (suc zero) s f t n = absurd (omega arith)
@@ -100,12 +100,12 @@ sooner zero l m e = e
 sooner (suc k) l m e = omega arith
 
 -- what holds of a cell wherever it holds of its neighbours by the scan's steps
-module _ (b : Board) (scan : ℕ) (scan_in : scan < 2) (P : ℕ → ℕ → Type 0)
+module _ (b : Chamfer) (scan : ℕ) (scan_in : scan < 2) (P : ℕ → ℕ → Type 0)
     (next : (x y : ℕ) → On b x y
     → ((k x' y' : ℕ) → 4 * scan ≤ k → k < 4 * scan + 4 → Neighbour b k x y x' y' → P x' y')
     → P x y) where
   -- holds of the cells at the places before m
-  until : (m x y : ℕ) → On b x y → place scan (b.w * b.h) (cell b.w x y) < m → P x y
+  until : (m x y : ℕ) → On b x y → place scan (b.board.w * b.board.h) (cell b.board.w x y) < m → P x y
   until zero x y here l = absurd (omega arith)
   until (suc m) x y here l =
       next x y here
@@ -118,4 +118,4 @@ module _ (b : Board) (scan : ℕ) (scan_in : scan < 2) (P : ℕ → ℕ → Type
 
   -- and so of every cell
   pub along : (x y : ℕ) → On b x y → P x y
-  along x y here = until (suc (place scan (b.w * b.h) (cell b.w x y))) x y here (le_refl _)
+  along x y here = until (suc (place scan (b.board.w * b.board.h) (cell b.board.w x y))) x y here (le_refl _)

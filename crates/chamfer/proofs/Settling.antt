@@ -9,22 +9,14 @@ use native.Mathlib.Omega.{arith}
 use lib.ListN.{set}
 use lib.Seq.{get_or-set_other}
 use Rattle.rules.specs.Board.{cell}
-use Rattle.chamfer_turn.specs.declared.Board.{Board}
+use Rattle.chamfer_turn.specs.declared.weighted.Chamfer.{Chamfer}
 use Rattle.chamfer_turn.specs.Neighbours.{Words, On, word, Neighbour, Lowest, CellTurned}
 use Rattle.chamfer.specs.Scans.{half, whole, Settled}
 use Rattle.chamfer_turn.proofs.Cells.{each_word, words_after}
 use Rattle.chamfer.proofs.Order.{forward_scan, backward_scan, Before, earlier}
 
--- the ends by other names
-pub ends_at : {b : Board} {from to t t' u u' : ℕ} {before after : List ℕ}
-    → Settled b from to t u before after
-    → t' ≡ t
-    → u' ≡ u
-    → Settled b from to t' u' before after
-ends_at S e f = rw (e, f) S
-
 -- a lowest word stays the lowest while it is kept and the words of the neighbours that it is taken from are kept
-still_lowest : {b : Board} {words words' : List ℕ} {x y from to own v v' : ℕ}
+still_lowest : {b : Chamfer} {words words' : List ℕ} {x y from to own v v' : ℕ}
     → v' ≡ v
     → ((k x' y' : ℕ) → from ≤ k → k < to → Neighbour b k x y x' y' → word b words' x' y' ≡ word b words x' y')
     → Lowest b words x y from to own v
@@ -56,40 +48,40 @@ not_itself zero l e = omega arith
 not_itself (suc n) l e = omega arith
 
 -- a turn with the scan's own steps settles one cell
-pub one_turn : {b : Board} (scan : ℕ) {x y u : ℕ} {before after : List ℕ}
+pub one_turn : {b : Chamfer} (scan : ℕ) {x y u : ℕ} {before after : List ℕ}
     → scan < 2
-    → u ≡ cell b.w x y + 1
+    → u ≡ cell b.board.w x y + 1
     → Words b before
     → On b x y
     → CellTurned b x y (4 * scan) (4 * scan + 4) before after
-    → Settled b (4 * scan) (4 * scan + 4) (cell b.w x y) u before after
+    → Settled b (4 * scan) (4 * scan + 4) (cell b.board.w x y) u before after
 one_turn {b} scan {x} {y} {u} {before} scan_in e W here T =
-    let c : ℕ = cell b.w x y in
+    let c : ℕ = cell b.board.w x y in
     let v : ℕ = T.v in
     rw T.stored
     (record {
-      words = words_after W here (omega (arith, T.lowest.no_more, W.most (cell b.w x y)));
+      words = words_after W here (omega (arith, T.lowest.no_more, W.most (cell b.board.w x y)));
       settled =
           each_word W here
-          (λ x' y' n. c ≤ cell b.w x' y' → cell b.w x' y' < u
+          (λ x' y' n. c ≤ cell b.board.w x' y' → cell b.board.w x' y' < u
           → Lowest b (set before c v) x' y' (4 * scan) (4 * scan + 4) (word b before x' y') n)
           (λ l m.
           still_lowest refl
           (λ k x' y' f t n.
-          get_or-set_other before c (cell b.w x' y') v 0 (not_itself scan (earlier here scan k scan_in f t n)))
+          get_or-set_other before c (cell b.board.w x' y') v 0 (not_itself scan (earlier here scan k scan_in f t n)))
           T.lowest)
           (λ x' y' on other l m. absurd (other (omega arith)));
       kept_below =
-          each_word W here (λ x' y' n. cell b.w x' y' < c → n ≡ word b before x' y') (λ l. absurd (omega arith))
+          each_word W here (λ x' y' n. cell b.board.w x' y' < c → n ≡ word b before x' y') (λ l. absurd (omega arith))
           (λ x' y' on other l. refl);
       kept_above =
-          each_word W here (λ x' y' n. u ≤ cell b.w x' y' → n ≡ word b before x' y')
+          each_word W here (λ x' y' n. u ≤ cell b.board.w x' y' → n ≡ word b before x' y')
           (λ l. absurd (omega arith))
           (λ x' y' on other l. refl);
     })
 
 -- the forward scan goes on from number u
-pub forward_on : {b : Board} {t u v : ℕ} {before between after : List ℕ}
+pub forward_on : {b : Chamfer} {t u v : ℕ} {before between after : List ℕ}
     → t ≤ u
     → u ≤ v
     → Settled b 0 half t u before between
@@ -99,7 +91,7 @@ forward_on {b} {t} {u} l m S T =
     record {
       words = T.words;
       settled = λ x y on from_t to_v.
-          by_cases (dec_lt (cell b.w x y) u)
+          by_cases (dec_lt (cell b.board.w x y) u)
           (λ below.
           still_lowest (T.kept_below x y on below)
           (λ k x' y' f g n.
@@ -112,7 +104,7 @@ forward_on {b} {t} {u} l m S T =
     }
 
 -- the backward scan goes on from number u down
-pub backward_on : {b : Board} {t u v : ℕ} {before between after : List ℕ}
+pub backward_on : {b : Chamfer} {t u v : ℕ} {before between after : List ℕ}
     → t ≤ u
     → u ≤ v
     → Settled b half whole u v before between
@@ -122,7 +114,7 @@ backward_on {b} {t} {u} l m S T =
     record {
       words = T.words;
       settled = λ x y on from_t to_v.
-          by_cases (dec_lt (cell b.w x y) u)
+          by_cases (dec_lt (cell b.board.w x y) u)
           (λ below. rw (← S.kept_below x y on below) (T.settled x y on from_t below))
           (λ past.
           still_lowest (T.kept_above x y on (omega arith))

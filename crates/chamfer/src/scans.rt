@@ -1,11 +1,14 @@
 // The two scans, row by row, over one word for each cell of the board.
+// They stay two: rows and cells come in opposite orders, so that one for both would ask for its order at every cell.
+// What is known of the words stands in each contract: beside a `&mut` a ghost field gets no proof.
 ghost use Rattle.std.specs.Prelude.{◌+◌, ◌*◌, ◌<◌, ◌≡◌, length};
 ghost use Rattle.rules.specs.Board.{cell, Bored};
 ghost use Rattle.rules.specs.Accepted.{Somewhere};
-ghost use Rattle.chamfer_turn.specs.Neighbours.{Ruled, Words};
+ghost use Rattle.chamfer_turn.specs.Neighbours.{Words};
 ghost use Rattle.chamfer.specs.Scans.{half, whole, Settled, Scan, first_word, Begun, Scanned};
 
-use chamfer_turn::{Board, relax};
+use chamfer_turn::relax;
+use chamfer_turn::weighted::Chamfer;
 
 // 003's "b(i,j) = ∞": a word above every true one, to which a weight can be added.
 const FAR: u32 = 1_073_741_824;
@@ -22,67 +25,63 @@ fn begin(picture: &[u8], words: &mut [u32])
     requires { length picture.now ≡ length words.old }
     ensures { Begun picture.now words.new }
 {
-    for c in 0..words.len() {
-        words[c] = first_word(picture[c]);
+    for (c, word) in words.iter_mut().enumerate() {
+        *word = first_word(picture[c]);
     }
 }
 
 // One row of the forward scan, from the left.
-fn forward_row(b: Board, words: &mut [u32], y: usize)
-    requires { Ruled b × Words b words.old × (y < b.h) }
-    ensures { Settled b 0 half (cell b.w 0 y) (cell b.w 0 (y + 1))
-        words.old words.new }
+fn forward_row(chamfer: Chamfer, words: &mut [u32], y: usize)
+    requires words_in { Words chamfer words.old }
+    requires row_in { y < chamfer.board.h }
+    ensures { let w = chamfer.board.w in
+        Settled chamfer 0 half (cell w 0 y) (cell w 0 (y + 1)) words.old words.new }
 {
-    let w = b.w;
-    for x in 0..w {
-        relax(b, words, x, y, 0, 4);
+    for x in 0..chamfer.board.w {
+        relax(chamfer, words, x, y, 0, 4);
     }
 }
 
 // The forward scan, from the top row down.
-fn forward(b: Board, words: &mut [u32])
-    requires { Ruled b × Words b words.old }
-    ensures { Scan b 0 half words.old words.new }
+fn forward(chamfer: Chamfer, words: &mut [u32])
+    requires { Words chamfer words.old }
+    ensures { Scan chamfer 0 half words.old words.new }
 {
-    let h = b.h;
-    for y in 0..h {
-        forward_row(b, words, y);
+    for y in 0..chamfer.board.h {
+        forward_row(chamfer, words, y);
     }
 }
 
 // One row of the backward scan, from the right.
-fn backward_row(b: Board, words: &mut [u32], y: usize)
-    requires { Ruled b × Words b words.old × (y < b.h) }
-    ensures { Settled b half whole (cell b.w 0 y) (cell b.w 0 (y + 1))
-        words.old words.new }
+fn backward_row(chamfer: Chamfer, words: &mut [u32], y: usize)
+    requires words_in { Words chamfer words.old }
+    requires row_in { y < chamfer.board.h }
+    ensures { let w = chamfer.board.w in
+        Settled chamfer half whole (cell w 0 y) (cell w 0 (y + 1)) words.old words.new }
 {
-    let mut x = b.w;
-    while 0 < x {
-        x -= 1;
-        relax(b, words, x, y, 4, 8);
+    for x in (0..chamfer.board.w).rev() {
+        relax(chamfer, words, x, y, 4, 8);
     }
 }
 
 // The backward scan, from the bottom row up.
-fn backward(b: Board, words: &mut [u32])
-    requires { Ruled b × Words b words.old }
-    ensures { Scan b half whole words.old words.new }
+fn backward(chamfer: Chamfer, words: &mut [u32])
+    requires { Words chamfer words.old }
+    ensures { Scan chamfer half whole words.old words.new }
 {
-    let mut y = b.h;
-    while 0 < y {
-        y -= 1;
-        backward_row(b, words, y);
+    for y in (0..chamfer.board.h).rev() {
+        backward_row(chamfer, words, y);
     }
 }
 
 // First words, then both scans.
-pub fn map_words(b: Board, picture: &[u8], words: &mut [u32])
-    requires { Ruled b × (length picture.now ≡ b.w * b.h) × (length words.old ≡ b.w * b.h)
-        × Somewhere b.w b.h (Bored b.w picture.now) }
-    ensures { Scanned b.w b.h b.d1 b.d2 picture.now
-        words.old words.new }
+pub fn map_words(chamfer: Chamfer, picture: &[u8], words: &mut [u32])
+    requires picture_is { length picture.now ≡ chamfer.board.w * chamfer.board.h }
+    requires words_are { length words.old ≡ chamfer.board.w * chamfer.board.h }
+    requires bored { Somewhere chamfer.board.w chamfer.board.h (Bored chamfer.board.w picture.now) }
+    ensures { Scanned chamfer.board.w chamfer.board.h chamfer.d1 chamfer.d2 picture.now words.old words.new }
 {
     begin(picture, words);
-    forward(b, words);
-    backward(b, words);
+    forward(chamfer, words);
+    backward(chamfer, words);
 }

@@ -3,53 +3,53 @@
 use mathlib.Core.Path.{◌≡◌, ◌∙◌}
 use mathlib.Core.Logic.{inl, inr, ⊎_elim, by_cases}
 use mathlib.Core.List.{List}
-use Prim.Native.Nat.{ℕ, ◌+◌, ◌≤◌, ◌<◌}
+use Prim.Native.Nat.{ℕ, ◌+◌, ◌≤◌, min}
 use native.Mathlib.Nat.{le_refl}
-use native.Mathlib.Decide.{ℕ_discrete}
+use native.Mathlib.Decide.{dec_le, ℕ_discrete}
 use native.Mathlib.Omega.{arith}
+use Rattle.std.specs.Prelude.{Some}
 use Rattle.rules.specs.Table.{weight, Leads}
 use Rattle.rules.specs.declared.Step.{Step}
-use Rattle.chamfer_turn.specs.declared.Board.{Board}
-use Rattle.chamfer_turn.specs.Neighbours.{word, On, printed, Moved, Neighbour, offer, Offered, Lesser, Lowest}
+use Rattle.chamfer_turn.specs.declared.weighted.Chamfer.{Chamfer}
+use Rattle.chamfer_turn.specs.Neighbours.{word, printed, Moved, Neighbour, offer, Offered, Lesser, Lowest}
 
-module _ {b : Board} {x y k : ℕ} {s : Step} (is : s ≡ printed k) where
-  -- the column that was worked out is the neighbour's
-  same_column : {column x' y' : ℕ} → Moved x s.1 b.w column → Neighbour b k x y x' y' → x' ≡ column
-  same_column a n = a.only _ n.on_board.column_in (rw (← is) at n.leads.across)
+module _ {b : Chamfer} {x y k column row through : ℕ} {s : Step} (words : List ℕ) (is : s ≡ printed k)
+    (a : Moved x s.1 b.board.w (Some column)) (d : Moved y s.0 b.board.h (Some row))
+    (e : through ≡ word b words column row + weight b.d1 b.d2 s.2) where
+  -- the neighbour is in that column and row, so it offers `through`
+  bounded : {v : ℕ} → v ≤ through → (x' y' : ℕ) → Neighbour b k x y x' y' → v ≤ offer b words k x' y'
+  bounded l x' y' n =
+      let across : column ≡ x' = cc (a.only x' n.on_board.column_in (rw (← is) at n.leads.across)) in
+      let down : row ≡ y' = cc (d.only y' n.on_board.row_in (rw (← is) at n.leads.down)) in
+      rw (← across, ← down, ← is) (omega arith)
 
-  -- and so is the row
-  same_row : {row x' y' : ℕ} → Moved y s.0 b.h row → Neighbour b k x y x' y' → y' ≡ row
-  same_row d n = d.only _ n.on_board.row_in (rw (← is) at n.leads.down)
+  -- the lesser is taken
+  pub taken : {best v : ℕ} → v ≡ min best through → Lesser b words x y k best v
+  taken {best} {v} m =
+      let there_leads : Leads s x y column row = record { across = a.leads.1; down = d.leads.1 } in
+      record {
+        no_more = omega arith;
+        no_more_through = bounded (omega arith);
+        made =
+            by_cases (dec_le best through) (λ l. inl (omega arith))
+            (λ n.
+            inr
+            (record {
+              k = k;
+              x' = column;
+              y' = row;
+              step_from = le_refl k;
+              step_to = omega arith;
+              neighbour =
+                  record {
+                    leads = rw (← is) there_leads;
+                    on_board = record { column_in = a.leads.0; row_in = d.leads.0 };
+                  };
+              offer_is = rw (← is) (omega arith);
+            }));
+      }
 
-  module _ (words : List ℕ) where
-    module _ {column row through : ℕ} (a : Moved x s.1 b.w column) (d : Moved y s.0 b.h row)
-        (there : On b column row) (e : through ≡ word b words column row + weight b.d1 b.d2 s.2) where
-      -- the neighbour offers `through`
-      bounded : {v : ℕ} → v ≤ through → (x' y' : ℕ) → Neighbour b k x y x' y' → v ≤ offer b words k x' y'
-      bounded l x' y' n = rw (same_column a n, same_row d n, ← is) (omega arith)
-
-      -- it offers less: that is taken
-      pub taken : {best : ℕ} → through < best → Lesser b words x y k best through
-      taken l =
-          let there_leads : Leads s x y column row =
-          record { across = a.leads there.column_in; down = d.leads there.row_in } in
-          record {
-            no_more = omega arith;
-            no_more_through = bounded (le_refl _);
-            made =
-                inr
-                (record {
-                  k = k;
-                  x' = column;
-                  y' = row;
-                  step_from = le_refl k;
-                  step_to = omega arith;
-                  neighbour = record { leads = rw (← is) there_leads; on_board = there };
-                  offer_is = rw (← is) e;
-                });
-          }
-
-module _ {b : Board} {words : List ℕ} {x y from : ℕ} where
+module _ {b : Chamfer} {words : List ℕ} {x y from : ℕ} where
   -- what is offered by some steps is offered by more
   wider : {from' to to' v : ℕ} → from ≤ from' → to ≤ to' → Offered b words x y from' to v
       → Offered b words x y from to' v

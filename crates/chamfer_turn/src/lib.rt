@@ -2,34 +2,28 @@
 // repeat. Which cells have their turn, and when, is not asked here.
 #![tactic(auto)]
 
-ghost use Rattle.std.specs.Prelude.{◌+◌, ◌≤◌, ◌<◌, ◌≡◌, nat_abs};
+pub mod weighted;
+
+ghost use Rattle.std.specs.Prelude.{◌+◌, ◌≤◌, ◌<◌, ◌≡◌};
 ghost use Rattle.rules.specs.Limits.{side_limit};
 ghost use Rattle.rules.specs.Table.{weight};
-ghost use Rattle.chamfer_turn.specs.Neighbours.{Ruled, Words, On, word, printed, Moved, Lesser, Lowest, CellTurned};
+ghost use Rattle.chamfer_turn.specs.Neighbours.{Words, On, word, printed, Moved, Lesser, Lowest, CellTurned};
 
-use rules::Step;
-
-// A board of `w` columns and `h` rows, with the weights of a straight and of a slanted step.
-#[derive(Clone, Copy)]
-pub struct Board {
-    pub w: usize,
-    pub h: usize,
-    pub d1: u32,
-    pub d2: u32,
-}
+use rules::{Choice, Step};
+use weighted::Chamfer;
 
 // "each neighbour with its row step, column step and choice of weight", as 003 prints them. The forward scan:
 // b(i−1,j−1)+d2, b(i−1,j)+d1, b(i−1,j+1)+d2, b(i,j−1)+d1; the backward scan: b(i,j+1)+d1, b(i+1,j−1)+d2, b(i+1,j)+d1,
 // b(i+1,j+1)+d2.
 const STEPS: [Step; 8] = [
-    Step(-1, -1, 2),
-    Step(-1, 0, 1),
-    Step(-1, 1, 2),
-    Step(0, -1, 1),
-    Step(0, 1, 1),
-    Step(1, -1, 2),
-    Step(1, 0, 1),
-    Step(1, 1, 2),
+    Step(-1, -1, Choice::D2),
+    Step(-1, 0, Choice::D1),
+    Step(-1, 1, Choice::D2),
+    Step(0, -1, Choice::D1),
+    Step(0, 1, Choice::D1),
+    Step(1, -1, Choice::D2),
+    Step(1, 0, Choice::D1),
+    Step(1, 1, Choice::D2),
 ];
 
 // Step k of the table.
@@ -40,78 +34,81 @@ fn step_at(k: usize) -> Step
     STEPS[k]
 }
 
-// The weight that a step chooses.
-fn weight_of(b: Board, choice: u32) -> u32
-    requires { 1 ≤ choice }
-    ensures { result ≡ weight b.d1 b.d2 choice }
-{
-    if choice == 1 { b.d1 } else { b.d2 }
-}
-
-// Where a step leads in one direction; a number from `size` on where it leads off the board.
-fn moved(at: usize, by: i32, size: usize) -> usize
-    requires { (at < size) × (size ≤ side_limit) × (nat_abs by ≤ 1) }
+// Where a step leads in one direction, unless off the board. One back from 0 wraps round to a number above every side.
+fn moved(at: usize, by: i32, size: usize) -> Option<usize>
+    requires { (at < size) × (size ≤ side_limit) }
     ensures { Moved at by size result }
 {
-    if by == 0 {
-        return at;
-    }
-    if by == 1 {
-        return at + 1;
-    }
-    if at == 0 {
-        return size;
-    }
-    at - 1
+    let to = at.wrapping_add_signed(by as isize);
+    (to < size).then_some(to)
 }
 
-// What the neighbour (x, y) offers by a step that chooses so: its word and the weight of the step.
-fn offer_of(b: Board, words: &[u32], x: usize, y: usize, choice: u32) -> u32
-    requires { Ruled b × Words b words.now × On b x y × (1 ≤ choice) }
-    ensures { result ≡ word b words.now x y + weight b.d1 b.d2 choice }
-{
-    let w = b.w;
-    words[y * w + x] + weight_of(b, choice)
+// The turn of the cell (x, y): the words of the board as they stand, and where the cell is.
+#[derive(Clone, Copy)]
+struct Turn<'a> {
+    chamfer: Chamfer,
+    words: &'a [u32],
+    x: usize,
+    y: usize,
+    ghost words_in: { Words chamfer words.now },
+    ghost on_board: { On chamfer x y },
 }
 
-// The lesser of `best` and of what the neighbour of (x, y) by step k offers. A neighbour off the board is passed over.
-fn lesser(b: Board, words: &[u32], x: usize, y: usize, k: usize, best: u32) -> u32
-    requires { Ruled b × Words b words.now × On b x y × (k < 8) }
-    ensures { Lesser b words.now x y k best result }
-{
-    let w = b.w;
-    let h = b.h;
-    let step = step_at(k);
-    let column = moved(x, step.1, w);
-    if w <= column {
-        return best;
+impl Turn<'_> {
+    // What the neighbour (column, row) offers by a step that chooses so: its word and the weight of the step.
+    fn offer_of(&self, column: usize, row: usize, choice: Choice) -> u32
+        requires { On self.now.chamfer column row }
+        ensures { let b = self.now.chamfer in
+            result ≡ word b self.now.words.now column row + weight b.d1 b.d2 choice }
+    {
+        let w = self.chamfer.board.w;
+        self.words[row * w + column] + self.chamfer.weight_of(choice)
     }
-    let row = moved(y, step.0, h);
-    if h <= row {
-        return best;
-    }
-    let through = offer_of(b, words, column, row, step.2);
-    if through < best { through } else { best }
-}
 
-// The least of the cell's own word and of what its neighbours by the steps from .. to − 1 offer.
-fn lowest(b: Board, words: &[u32], x: usize, y: usize, from: usize, to: usize) -> u32
-    requires { Ruled b × Words b words.now × On b x y × (from ≤ to) × (to ≤ 8) }
-    ensures { Lowest b words.now x y from to (word b words.now x y) result }
-{
-    let w = b.w;
-    let mut best = words[y * w + x];
-    for k in from..to {
-        best = lesser(b, words, x, y, k, best);
+    // The lesser of `best` and of what the neighbour by step k offers. A neighbour off the board is passed over.
+    fn lesser(&self, k: usize, best: u32) -> u32
+        requires { k < 8 }
+        ensures { let t = self.now in Lesser t.chamfer t.words.now t.x t.y k best result }
+    {
+        let board = self.chamfer.board;
+        let step = step_at(k);
+        let Some(column) = moved(self.x, step.1, board.w) else {
+            return best;
+        };
+        let Some(row) = moved(self.y, step.0, board.h) else {
+            return best;
+        };
+        best.min(self.offer_of(column, row, step.2))
     }
-    best
+
+    // The least of the cell's own word and of what its neighbours by the steps from .. to − 1 offer.
+    fn lowest(&self, from: usize, to: usize) -> u32
+        requires { (from ≤ to) × (to ≤ 8) }
+        ensures { let t = self.now in
+            Lowest t.chamfer t.words.now t.x t.y from to (word t.chamfer t.words.now t.x t.y) result }
+    {
+        let w = self.chamfer.board.w;
+        let mut best = self.words[self.y * w + self.x];
+        for k in from..to {
+            best = self.lesser(k, best);
+        }
+        best
+    }
 }
 
 // The turn of one cell: it takes the lowest word.
-pub fn relax(b: Board, words: &mut [u32], x: usize, y: usize, from: usize, to: usize)
-    requires { Ruled b × Words b words.old × On b x y × (from ≤ to) × (to ≤ 8) }
-    ensures { CellTurned b x y from to words.old words.new }
+pub fn relax(chamfer: Chamfer, words: &mut [u32], x: usize, y: usize, from: usize, to: usize)
+    requires words_in { Words chamfer words.old }
+    requires on_board { On chamfer x y }
+    requires steps { (from ≤ to) × (to ≤ 8) }
+    ensures { CellTurned chamfer x y from to words.old words.new }
 {
-    let w = b.w;
-    words[y * w + x] = lowest(b, words, x, y, from, to);
+    let w = chamfer.board.w;
+    let turn = Turn {
+        chamfer,
+        words,
+        x,
+        y,
+    };
+    words[y * w + x] = turn.lowest(from, to);
 }

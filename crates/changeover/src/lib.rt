@@ -3,38 +3,31 @@
 // too. Every accepted call copies the list of squares, for the two that it needs.
 #![tactic(auto)]
 
-ghost use Rattle.rules.specs.Answers.{changeover_number, changeover_at};
+ghost use Rattle.rules.specs.Answers.{number_of, changeover_at};
 ghost use Rattle.rules.specs.Calls.{ChangeoverCall};
 
 use gauge::crossing::last_euclid;
-use rules::{COLUMN_LIMIT, ChangeoverAnswer, VALUE_LIMIT};
+use rules::refusal::Refusal;
+use rules::{COLUMN_LIMIT, VALUE_LIMIT};
 use squares::{list_of_squares, square};
 
 // The changeover of columns i < u that hold the values a and b: the greatest whole p with (p−i)² + a ≤ (p−u)² + b. Below
 // zero it is an answer like any other, rounded down and so away from zero.
-pub fn changeover(i: u32, u: u32, a: u32, b: u32) -> ChangeoverAnswer
-    ensures { ChangeoverCall i u a b (changeover_number result) (changeover_at result) }
+pub fn changeover(i: u32, u: u32, a: u32, b: u32) -> Result<i32, Refusal>
+    ensures { ChangeoverCall i u a b (number_of result) (changeover_at result) }
 {
-    if u <= i {
-        return ChangeoverAnswer::Refused;
-    }
-    if COLUMN_LIMIT < u {
-        return ChangeoverAnswer::Refused;
-    }
-    if VALUE_LIMIT < a {
-        return ChangeoverAnswer::Refused;
-    }
-    if VALUE_LIMIT < b {
-        return ChangeoverAnswer::Refused;
+    if u <= i || COLUMN_LIMIT < u || VALUE_LIMIT < a || VALUE_LIMIT < b {
+        return Err(Refusal::Changeover);
     }
     let squares = list_of_squares();
-    let top = square(&squares, u as usize) + b as u64;
-    let low = square(&squares, i as usize) + a as u64;
+    let (left, right) = (i as usize, u as usize);
+    let (a, b) = (u64::from(a), u64::from(b));
+    let low = square(&squares, left) + a;
+    let top = square(&squares, right) + b;
     if low <= top {
-        let p = last_euclid(&squares, i as usize, u as usize, a as u64, b as u64);
-        return ChangeoverAnswer::At(p as i32);
+        return Ok(last_euclid(&squares, left, right, a, b) as i32);
     }
-    let d = 2 * (u - i) as u64;
-    let below = (low - top + d - 1) / d;
-    ChangeoverAnswer::At(0 - below as i32)
+    let d = 2 * u64::from(u - i);
+    let below = (low - top).div_ceil(d);
+    Ok(-(below as i32))
 }

@@ -14,34 +14,28 @@ use Rattle.rules.specs.Board.{cell}
 use Rattle.rules.proofs.Board.{cell_inj}
 use Rattle.columns.specs.Rows.{BandRow, BandRows}
 
--- a row is being filled from column a up to b, and has come to column x
-pub record Filling (start a b : ℕ) (Is : ℕ → ℕ → Type 0) (before words : List ℕ) (x : ℕ) : Type 0 where
-  pub from : a ≤ x
-  pub to : x ≤ b
-  pub done : BandRow start a x Is before words
-
-module _ {start a b : ℕ} {Is : ℕ → ℕ → Type 0} {before words : List ℕ} {x : ℕ} (s : Filling start a b Is before words x) where
+module _ {start a x : ℕ} {Is : ℕ → ℕ → Type 0} {before words : List ℕ} (row : BandRow start a x Is before words) where
   -- a word that belongs to no column below x is as it was
   pub unfilled : (k : ℕ) → ((x' : ℕ) → x' < x → k ≢ start + x') → get_or words k 0 ≡ get_or before k 0
-  unfilled k out = s.done.others k (λ x' l m e. out x' m e)
+  unfilled k out = row.others k (λ x' l m e. out x' m e)
 
   -- column x is filled
-  pub filling_more : {i v : ℕ} → x < b → i ≡ start + x → i < length words → Is x v →
-      Filling start a b Is before (set words i v) (x + 1)
-  filling_more {i} {v} l at fits is =
+  pub row_more : {i v : ℕ} → a ≤ x → i ≡ start + x → i < length words → Is x v →
+      BandRow start a (x + 1) Is before (set words i v)
+  row_more {i} {v} from at fits is =
       record {
-        from = omega (arith, s.from);
-        to = omega arith;
-        done = record {
-          words = λ x' m n. below_more (λ k. a ≤ k → Is k (get_or (set words i v) (start + k) 0)) x
-              (λ k p o. rw (get_or-set_other words i (start + k) v 0 (λ e. omega arith)) (s.done.words k o p))
-              (λ o. rw (← at, get_or-set_same words i v 0 fits) is) x' n m;
-          others = λ k out.
-              get_or-set_other words i k v 0 (λ e. out x s.from (omega arith) (e ∙ at))
-              ∙ s.done.others k (λ x' m n e. out x' m (omega arith) e);
-          as_long = length-set words i v ∙ s.done.as_long;
-        };
+        words = λ x' m n. below_more (λ k. a ≤ k → Is k (get_or (set words i v) (start + k) 0)) x
+            (λ k p o. rw (get_or-set_other words i (start + k) v 0 (λ e. omega arith)) (row.words k o p))
+            (λ o. rw (← at, get_or-set_same words i v 0 fits) is) x' n m;
+        others = λ k out.
+            get_or-set_other words i k v 0 (λ e. out x from (omega arith) (e ∙ at))
+            ∙ row.others k (λ x' m n e. out x' m (omega arith) e);
+        as_long = length-set words i v ∙ row.as_long;
       }
+
+  -- every column up to b is filled
+  pub row_end : {b : ℕ} → x ≤ b → b ≤ x → BandRow start a b Is before words
+  row_end {b} l m = let e : x ≡ b = omega arith in rw e at row
 
 -- no row
 pub rows_none : {w a b c : ℕ} {Is : ℕ → ℕ → ℕ → Type 0} {words : List ℕ} → BandRows w a b c c Is words words

@@ -1,53 +1,57 @@
--- The test of bytes, row by row: the greatest byte of a row's columns is above 1 exactly where some byte of them is.
--- Assumes nothing.
-use mathlib.Core.Path.{◌≡◌}
-use mathlib.Core.Logic.{by_cases}
-use mathlib.Core.Bool.{true, true≢false}
-use mathlib.Core.List.{List}
-use Prim.Native.Nat.{ℕ, ◌+◌, ◌*◌, ◌≤◌, ◌<◌, max}
-use native.Mathlib.Decide.{dec_le}
+-- The test of bytes in one row: the greatest of the bytes, folded from 0, is not below any of them, and it is one of
+-- them where it is not 0. Assumes nothing.
+use mathlib.Core.Path.{◌≡◌, refl, ◌∙◌, sym}
+use mathlib.Core.Logic.{◌≢◌, by_cases}
+use mathlib.Core.List.{List, [], ◌∷◌}
+use Prim.Native.Nat.{ℕ, zero, suc, ◌+◌, ◌-◌, ◌≤◌, ◌<◌, max, zero-le}
+use native.Mathlib.Nat.{le_refl}
+use native.Mathlib.Decide.{ℕ_discrete}
 use native.Mathlib.Omega.{arith}
-use borrow.Author.Count.{below_more}
-use lib.ListN.{get_or}
-use Rattle.rules.specs.Board.{cell}
-use Rattle.columns.specs.Bands.{BadBand}
+use lib.ListN.{length, get_or, take, drop, length-take, length-drop}
+use lib.Seq.{get_or-take, get_or-drop}
+use Rattle.std.specs.List.{fold}
 use Rattle.columns.specs.Rows.{Most}
 
--- the columns of a row are being seen from a up to b; the greatest byte before column x is `most`
-pub record Seeing (start a b : ℕ) (picture : List ℕ) (most x : ℕ) : Type 0 where
-  pub from : a ≤ x
-  pub to : x ≤ b
-  pub done : Most start a x picture most
+-- the greatest of m and some bytes is not below m
+from_start : (m : ℕ) (bytes : List ℕ) → m ≤ fold max m bytes
+from_start m [] = le_refl m
+from_start m (byte ∷ bytes) = omega (arith, from_start (max m byte) bytes)
 
-module _ {start a b : ℕ} {picture : List ℕ} {most x : ℕ} (s : Seeing start a b picture most x) where
-  -- the byte of column x is seen
-  pub seeing_more : {r : ℕ} → x < b → r ≡ max most (get_or picture (start + x) 0) → Seeing start a b picture r (x + 1)
-  seeing_more {r} l e =
-      record {
-        from = omega (arith, s.from);
-        to = omega arith;
-        done = record {
-          greatest = λ x' m n. below_more (λ k. a ≤ k → get_or picture (start + k) 0 ≤ r) x
-              (λ k p o. omega (arith, s.done.greatest k o p)) (λ o. omega arith) x' n m;
-          attained = λ m. by_cases (dec_le most (get_or picture (start + x) 0))
-              (λ (n : most ≤ get_or picture (start + x) 0). (x, s.from, omega arith, omega arith))
-              (λ (n : ¬ (most ≤ get_or picture (start + x) 0)).
-              let t = s.done.attained (omega arith) in (t.0, t.1, omega (arith, t.2), omega (arith, t.3)));
-        };
-      }
+-- nor below a byte
+from_byte : (m : ℕ) (bytes : List ℕ) (k : ℕ) → get_or bytes k 0 ≤ fold max m bytes
+from_byte m [] k = zero-le
+from_byte m (byte ∷ bytes) zero = omega (arith, from_start (max m byte) bytes)
+from_byte m (byte ∷ bytes) (suc k) = from_byte (max m byte) bytes k
 
--- no byte before row y is bad; row y begins at `start`
-pub record Clean (w h a b : ℕ) (picture : List ℕ) (start y : ℕ) : Type 0 where
-  pub to : y ≤ h
-  pub start_is : start ≡ y * w
-  pub good : (x y' : ℕ) → a ≤ x → x < b → y' < y → get_or picture (cell w x y') 0 ≤ 1
+-- and where it is not m, it is a byte
+is_byte : (m : ℕ) (bytes : List ℕ) → fold max m bytes ≢ m →
+    (k : ℕ) × (k < length bytes) × (get_or bytes k 0 ≡ fold max m bytes)
+is_byte m [] n = absurd (n refl)
+is_byte m (byte ∷ bytes) n =
+    by_cases (ℕ_discrete (fold max (max m byte) bytes) (max m byte))
+    (λ (e : fold max (max m byte) bytes ≡ max m byte). (0, omega arith, omega arith))
+    (λ (o : fold max (max m byte) bytes ≢ max m byte).
+    let t = is_byte (max m byte) bytes o in (suc t.0, omega (arith, t.1), t.2))
 
-module _ {w h a b : ℕ} {picture : List ℕ} {start y : ℕ} (s : Clean w h a b picture start y) where
-  -- a byte of row y is bad
-  pub bad_row : {r : ℕ} → y < h → Most start a b picture r → 1 < r → BadBand w h a b picture true
-  bad_row l q p =
-      let t = q.attained (omega arith) in
-      record {
-        holds = λ _. (t.0, y, t.1, t.2, l, rw (← s.start_is) (omega (arith, t.3)));
-        passes = λ e. absurd (true≢false e);
-      }
+-- so it is of the bytes of the columns a up to b in the row that begins at `start`
+pub most_is : {start a b r : ℕ} {picture : List ℕ} → start + b ≤ length picture →
+    r ≡ fold max 0 (take (start + b - (start + a)) (drop (start + a) picture)) → Most start a b picture r
+most_is {start} {a} {b} {r} {picture} fits folded =
+    record {
+      greatest = λ x m n.
+          let at : a + (x - a) ≡ x = omega arith in
+          omega (arith, folded, from_byte 0 bytes (x - a), rw at at (byte_is (x - a) (omega arith)));
+      attained = λ m.
+          let t = is_byte 0 bytes (omega (arith, folded)) in
+          let within : a + t.0 < b = omega (arith, simp (length-take, length-drop) at t.1) in
+          (a + t.0, omega arith, within, sym (byte_is t.0 within) ∙ t.2 ∙ sym folded);
+    }
+  where
+    bytes : List ℕ
+    bytes = take (start + b - (start + a)) (drop (start + a) picture)
+
+    byte_is : (k : ℕ) → a + k < b → get_or bytes k 0 ≡ get_or picture (start + (a + k)) 0
+    byte_is k l =
+        let at : start + a + k ≡ start + (a + k) = omega arith in
+        let within : k < start + b - (start + a) = omega arith in
+        rw (get_or-take, get_or-drop, at)

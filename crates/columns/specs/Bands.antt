@@ -1,14 +1,8 @@
 -- What the sweeps leave of a band of columns, and what the test of its bytes answers. A band is the columns a up to
 -- b, with a and without b, of a board w wide and h high. Assumes nothing.
 use Rattle.std.specs.Prelude.{◌≡◌, Bool, true, false, List, ℕ, ◌≤◌, ◌<◌, length, get_or}
-use Rattle.rules.specs.Board.{Sides, cell, away, Bored}
+use Rattle.rules.specs.Board.{cell, away, Bored}
 use Rattle.rules.specs.Columns.{ColumnWord}
-
--- the columns a up to b of a board
-pub record Band (w h a b : ℕ) : Type 0 where
-  pub sides : Sides w h
-  pub ordered : a ≤ b
-  pub columns_in : b ≤ w
 
 -- each cell of the band has its column's word, and every other word is as it was
 pub record Swept (w h a b : ℕ) (picture before after : List ℕ) : Type 0 where

@@ -1,40 +1,59 @@
-// The two sweeps over a band of columns, and the test of the band's bytes. A band is the columns a up to b, with a and
-// without b. Rows are taken one after the other, so that memory is read in order.
+// The two sweeps over a band of columns, and the test of the band's bytes. Rows are taken one after the other, so that
+// memory is read in order.
 #![tactic(auto)]
 
-ghost use Rattle.std.specs.Prelude.{◌*◌, ◌≤◌, ◌≡◌, length};
-ghost use Rattle.columns.specs.Bands.{Band, Swept, BadBand};
+ghost use Rattle.std.specs.Prelude.{◌+◌, ◌*◌, ◌≤◌, ◌≡◌, length};
+ghost use Rattle.columns.specs.Bands.{Swept, BadBand};
+ghost use Rattle.columns.specs.Rows.{Most};
 
-use crate::bytes::row_most;
 use crate::down::down_rows;
 use crate::up::up_rows;
+use rules::sized::Board;
 
-mod bytes;
 mod down;
 mod up;
 
+// A band of a board: its columns from `from` up to `to`, with `from` and without `to`.
+#[derive(Clone, Copy)]
+pub struct Band {
+    pub board: Board,
+    pub from: usize,
+    pub to: usize,
+    ghost ordered: { from ≤ to },
+    ghost columns_in: { to ≤ board.w },
+}
+
 // Down, then up: each cell of the band gets the row of the nearest bore of its column, the upper one on a tie, or the
 // mark where the column has none.
-pub fn sweep(w: usize, h: usize, a: usize, b: usize, picture: &[u8], words: &mut [u32])
-    requires { Band w h a b × (length picture.now ≡ w * h) × (w * h ≤ length words.old) }
-    ensures { Swept w h a b picture.now words.old words.new }
+pub fn sweep(band: Band, picture: &[u8], words: &mut [u32])
+    requires picture_is { length picture.now ≡ band.board.w * band.board.h }
+    requires words_from { band.board.w * band.board.h ≤ length words.old }
+    ensures { Swept band.board.w band.board.h band.from band.to picture.now words.old words.new }
 {
-    down_rows(w, h, a, b, picture, words);
-    up_rows(w, h, a, b, words);
+    down_rows(band, picture, words);
+    up_rows(band, words);
 }
 
 // 5, of a band: some byte of it is neither 0 nor 1.
-#[tactic(auto, using(crate::proofs::Testing::bad_row))]
-pub fn bad_band(w: usize, h: usize, a: usize, b: usize, picture: &[u8]) -> bool
-    requires { Band w h a b × (length picture.now ≡ w * h) }
-    ensures { BadBand w h a b picture.now result }
+pub fn bad_band(band: Band, picture: &[u8]) -> bool
+    requires { length picture.now ≡ band.board.w * band.board.h }
+    ensures { BadBand band.board.w band.board.h band.from band.to picture.now result }
 {
-    let mut start = 0;
-    for y in 0..h {
-        if 1 < row_most(start, a, b, picture) {
+    for y in 0..band.board.h {
+        if 1 < row_most(band, y * band.board.w, picture) {
             return true;
         }
-        start += w;
     }
     false
+}
+
+// The greatest byte of the band in the row that begins at `start`, or 0 where the band has no column.
+fn row_most(band: Band, start: usize, picture: &[u8]) -> u8
+    requires { start + band.to ≤ length picture.now }
+    ensures { Most start band.from band.to picture.now result }
+{
+    picture[start + band.from..start + band.to]
+        .iter()
+        .copied()
+        .fold(0, u8::max)
 }

@@ -19,11 +19,12 @@ use Rattle.rules.specs.Measures.{measure}
 use Rattle.rules.specs.Columns.{Nearest, ColumnWord, cost_rank}
 use Rattle.rules.specs.Refusals.{scratch_words}
 use Rattle.rules.proofs.Board.{cell_in}
-use Rattle.rules.proofs.Measures.{lawful, cost_parts}
+use Rattle.rules.proofs.Measures.{lawful, has_parts}
 use Rattle.rules.proofs.Refusals.{getD_within}
 use Rattle.rules.proofs.Parts.{put_before}
-use Rattle.gauge.specs.declared.Gauge.{Gauge}
-use Rattle.gauge.specs.Line.{Measuring, Gauged, Wins, height_at}
+use Rattle.rules.specs.Answers.{kind_number}
+use Rattle.rules.specs.declared.kind.LineKind.{LineKind}
+use Rattle.gauge.specs.Line.{measured, Line, Wins, height_at}
 use Rattle.gauge.proofs.Places.{apart_below}
 use Rattle.rows.proofs.RowLine.{combine_small}
 use Rattle.cost_lines.specs.Lines.{Gathered, winner_word, Scattered}
@@ -43,7 +44,7 @@ added zero dx v l = refl
 added (suc zero) dx v l = refl
 added (suc (suc k)) dx v l = absurd (omega arith)
 
-module _ {g : Gauge} {w h x : ℕ} {costs values : List ℕ} (P : FitAccepted g.kind w h costs) (x_in : x < w)
+module _ (kind : LineKind) {w h x : ℕ} {costs values : List ℕ} (P : FitAccepted (kind_number kind) w h costs) (x_in : x < w)
     (long : length values ≡ h) (G : Gathered w x costs values) where
   -- a cell that has a cost stands at it, and a marked one at the line limit
   true_value : (j : ℕ) → j < h → Unmarked w costs x j → get_or values j 0 ≡ cost_at w costs x j
@@ -53,48 +54,45 @@ module _ {g : Gauge} {w h x : ℕ} {costs values : List ℕ} (P : FitAccepted g.
   marked_value j l e = G.each j (omega arith) ∙ rw (eq-eqb (cost_at w costs x j) mark e)
 
   -- the values of a column are a line
-  pub column_line : {squares : List ℕ} → Measuring g squares → Gauged g squares values
-  column_line measuring =
+  pub column_line : Line values
+  column_line =
       record {
-        measuring = measuring;
-        line = record {
-          from = omega (arith, P.sides.height_from);
-          to = omega (arith, P.sides.height_to);
-          values_to =
-              λ j below.
-              let l : j < h = omega arith in
-              by_cases (ℕ_discrete (cost_at w costs x j) mark) (λ e. omega (arith, marked_value j l e))
-              (λ n. omega (arith, true_value j l n, within_limit P x j x_in l n));
-        };
+        from = omega (arith, P.sides.height_from);
+        to = omega (arith, P.sides.height_to);
+        values_to =
+            λ j below.
+            let l : j < h = omega arith in
+            by_cases (ℕ_discrete (cost_at w costs x j) mark) (λ e. omega (arith, marked_value j l e))
+            (λ n. omega (arith, true_value j l n, within_limit P x j x_in l n));
       }
 
   -- a cell that has a cost is as high as its rank, and lower than the line limit
-  rank_height : (j y : ℕ) → j < h → Unmarked w costs x j → height_at g values j y ≡ cost_rank g.kind w costs y x j
+  rank_height : (j y : ℕ) → j < h → Unmarked w costs x j → height_at kind values j y ≡ cost_rank (kind_number kind) w costs y x j
   unfolding height_at
   rank_height j y l n =
-      ap ((measure g.kind).combine (away y j)) (true_value j l n)
-      ∙ added g.kind (away y j) (cost_at w costs x j) P.kind_in
+      ap ((measured kind).combine (away y j)) (true_value j l n)
+      ∙ added (kind_number kind) (away y j) (cost_at w costs x j) P.kind_in
 
-  low : (j y : ℕ) → j < h → y < h → Unmarked w costs x j → height_at g values j y < line_limit
+  low : (j y : ℕ) → j < h → y < h → Unmarked w costs x j → height_at kind values j y < line_limit
   unfolding height_at
   low j y l m n =
       let near : away y j < side_limit = lt_of_le_of_lt (apart_below y j) (omega (arith, P.sides.height_to)) in
-      let s = combine_small g.kind (get_or values j 0) near in
+      let s = combine_small (kind_number kind) (get_or values j 0) near in
       omega (arith, true_value j l n, within_limit P x j x_in l n)
 
   -- a marked cell is as high as the line limit
-  high : (j y : ℕ) → j < h → cost_at w costs x j ≡ mark → line_limit ≤ height_at g values j y
+  high : (j y : ℕ) → j < h → cost_at w costs x j ≡ mark → line_limit ≤ height_at kind values j y
   unfolding height_at
   high j y l e =
-      subst (λ b. b ≤ height_at g values j y) (marked_value j l e)
-      ((lawful g.kind (cost_parts P.kind_in)).stands (away y j) (get_or values j 0))
+      subst (λ b. b ≤ height_at kind values j y) (marked_value j l e)
+      ((lawful (kind_number kind) (has_parts kind)).stands (away y j) (get_or values j 0))
 
-  module _ {y j : ℕ} (y_in : y < h) (W : Wins (height_at g values) (length values) y j) where
+  module _ {y j : ℕ} (y_in : y < h) (W : Wins (height_at kind values) (length values) y j) where
     winner_in : j < h
     winner_in = omega (arith, W.column_in)
 
     -- a winner that has a cost is the nearest row
-    winner_nearest : Unmarked w costs x j → Nearest h (Unmarked w costs x) (cost_rank g.kind w costs y x) j
+    winner_nearest : Unmarked w costs x j → Nearest h (Unmarked w costs x) (cost_rank (kind_number kind) w costs y x) j
     winner_nearest n =
         let e = rank_height j y winner_in n in
         record {
@@ -105,7 +103,7 @@ module _ {g : Gauge} {w h x : ℕ} {costs values : List ℕ} (P : FitAccepted g.
         }
 
     -- the word of the winner is the column's
-    pub column_word : ColumnWord h (Unmarked w costs x) (cost_rank g.kind w costs y x) (winner_word values j)
+    pub column_word : ColumnWord h (Unmarked w costs x) (cost_rank (kind_number kind) w costs y x) (winner_word values j)
     column_word =
         by_cases (ℕ_discrete (cost_at w costs x j) mark)
         (λ e. rw (eq-eqb (get_or values j 0) line_limit (marked_value j winner_in e))
@@ -124,9 +122,9 @@ module _ {g : Gauge} {w h x : ℕ} {costs values : List ℕ} (P : FitAccepted g.
 
   -- the column made, from what the three steps leave
   pub column_more : {winners scratch after : List ℕ} (k : ℕ) (part : List ℕ) → length scratch ≡ scratch_words w h
-      → ((y : ℕ) → y < length values → Wins (height_at g values) (length values) y (get_or winners y 0))
+      → ((y : ℕ) → y < length values → Wins (height_at kind values) (length values) y (get_or winners y 0))
       → Scattered w x values winners (put_mid (w * h) k scratch part) after
-      → ColumnMore g.kind w h x costs scratch after
+      → ColumnMore (kind_number kind) w h x costs scratch after
   column_more {winners} {scratch} k part room W S =
       record {
         made =
@@ -147,17 +145,16 @@ pub record Sweeping (kind w h : ℕ) (costs values winners scratch : List ℕ) (
 -- one column more
 pub sweeping_more : {kind w h x : ℕ} {costs values winners scratch values' winners' scratch' : List ℕ}
     → Sweeping kind w h costs values winners scratch x → x < w
-    → ColumnMore kind w (length values) x costs scratch scratch'
+    → ColumnMore kind w h x costs scratch scratch'
     → length values' ≡ length values → length winners' ≡ length winners → length scratch' ≡ length scratch
     → Sweeping kind w h costs values' winners' scratch' (x + 1)
 sweeping_more {kind} {w} {h} {x} {costs} {values} {scratch = scratch} {scratch' = scratch'} S x_in M v n s =
-    let M' : ColumnMore kind w h x costs scratch scratch' = rw S.values_long at M in
     record {
       values_long = v ∙ S.values_long;
       winners_long = n ∙ S.winners_long;
       scratch_long = s ∙ S.scratch_long;
       left =
           below_more (ColumnAfter kind w h costs scratch') x
-          (λ i l y m. rw (M'.others i y (omega arith) m (omega arith)) (S.left i l y m)) M'.made;
+          (λ i l y m. rw (M.others i y (omega arith) m (omega arith)) (S.left i l y m)) M.made;
       within = omega arith;
     }

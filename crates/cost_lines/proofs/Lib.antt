@@ -1,3 +1,4 @@
+pub mod Picture
 pub mod Putting
 pub mod ColumnLine
 pub mod RowLine

@@ -17,10 +17,6 @@ pub record Putting (w x : ℕ) (f : ℕ → ℕ) (before now : List ℕ) (y : �
   pub others : (i k : ℕ) → i < w → i ≢ x → get_or now (cell w i k) 0 ≡ get_or before (cell w i k) 0
 
 module _ {w x : ℕ} {f : ℕ → ℕ} {before : List ℕ} where
-  -- nothing is put yet
-  pub putting_none : Putting w x f before before 0
-  putting_none = record { as_long = refl; done = λ k h. absurd (omega arith); others = λ i k h n. refl }
-
   -- one row more
   pub putting_more : {now : List ℕ} {y v : ℕ} → Putting w x f before now y → x < w → cell w x y < length before
       → v ≡ f y → Putting w x f before (set now (cell w x y) v) (y + 1)

@@ -20,24 +20,23 @@ use Rattle.rules.specs.Refusals.{scratch_words}
 use Rattle.rules.proofs.Board.{cell_in, row_ends}
 use Rattle.rules.proofs.Columns.{row_word_same, cost_step}
 use Rattle.rules.proofs.RowParts.{row_part_long, put_here, put_elsewhere}
-use Rattle.gauge.specs.declared.Gauge.{Gauge}
+use Rattle.rules.specs.Answers.{kind_number}
+use Rattle.rules.specs.declared.kind.LineKind.{LineKind}
 use Rattle.gauge.proofs.Places.{apart_below}
-use Rattle.gauge.specs.Line.{Measuring}
 use Rattle.rows.specs.Row.{Believed, LineRead, LineOut}
 use Rattle.rows.proofs.RowLine.{lift_small, words_part, words_length, words_at}
-use Rattle.cost_lines.specs.Lines.{Priced, Ranked, column_value}
+use Rattle.cost_lines.specs.Lines.{Ranked, column_value}
 use Rattle.cost_lines.specs.After.{FitAccepted, ColumnsAfter, RowAfter, RowsAfter, RowMore}
 use Rattle.cost_lines.proofs.ColumnLine.{within_limit}
 
-module _ {g : Gauge} {w h y : ℕ} {costs squares : List ℕ} (scratch : List ℕ) (measuring : Measuring g squares)
-    (P : FitAccepted g.kind w h costs) (y_in : y < h) (C : ColumnsAfter g.kind w h costs scratch w)
+module _ (kind : LineKind) {w h y : ℕ} {costs : List ℕ} (scratch : List ℕ)
+    (P : FitAccepted (kind_number kind) w h costs) (y_in : y < h) (C : ColumnsAfter (kind_number kind) w h costs scratch w)
     (room : length scratch ≡ scratch_words w h) where
   -- what a row line asks of the words
-  pub believed : Believed g squares (y * w) (w * h) scratch w
+  believed : Believed (y * w) (w * h) scratch w
   believed =
       let (i₀, j₀, column_in, row_in, unmarked) = P.unmarked in
       record {
-        measuring = measuring;
         from = P.sides.width_from;
         to = P.sides.width_to;
         before_tail = row_ends w refl y_in;
@@ -51,46 +50,31 @@ module _ {g : Gauge} {w h y : ℕ} {costs squares : List ℕ} (scratch : List �
         i₀_named = λ e. (C i₀ column_in y y_in).empty e j₀ row_in unmarked;
       }
 
-  -- each of them is the mark or names a cell that has a cost
-  priced : (i : ℕ) → i < w → Priced w costs i (get_or scratch (cell w i y) 0)
-  priced i l =
-      by_cases (ℕ_discrete (get_or scratch (cell w i y) 0) mark) (λ e. inr e)
-      (λ n.
-      let r = ((C i l y y_in).named n).row_in in
-      inl (omega (arith, P.sides.height_to), omega (arith, cell_in l r, P.lent.picture_is)))
-
-  -- the same over the part that fill is lent, as it asks it
-  pub priced_part : (i : ℕ) → i < length (words_part (y * w) w scratch)
-      → Priced (length (words_part (y * w) w scratch)) costs i (get_or (words_part (y * w) w scratch) i 0)
-  priced_part i l =
-      let l' : i < w = omega (arith, words_length believed) in
-      rw (words_length believed, words_at believed i l') (priced i l')
-
   -- the rank of a row that a word names is small
   rank_small : (i : ℕ) → i < w → get_or scratch (cell w i y) 0 ≢ mark
-      → cost_rank g.kind w costs y i (get_or scratch (cell w i y) 0) < 2 ^ 31
+      → cost_rank (kind_number kind) w costs y i (get_or scratch (cell w i y) 0) < 2 ^ 31
   rank_small i l n =
       let word = get_or scratch (cell w i y) 0 in
       let N = (C i l y y_in).named n in
       let below : word < side_limit = omega (arith, N.row_in, P.sides.height_to) in
       let near : away y word < side_limit = lt_of_le_of_lt (apart_below y word) (omega (arith, P.sides.height_to)) in
-      omega (arith, lift_small g.kind near, within_limit P i word l N.row_in N.feature)
+      omega (arith, lift_small (kind_number kind) near, within_limit P i word l N.row_in N.feature)
 
   module _ {values : List ℕ} (long : length values ≡ w)
-      (R : Ranked g.kind y costs (words_part (y * w) w scratch) values) where
+      (R : Ranked (kind_number kind) y costs (words_part (y * w) w scratch) values) where
     -- what fill has put for column i
     filled : (i : ℕ) → i < w
-        → get_or values i 0 ≡ column_value g.kind w costs y i (get_or scratch (cell w i y) 0)
+        → get_or values i 0 ≡ column_value (kind_number kind) w costs y i (get_or scratch (cell w i y) 0)
     filled i l =
         rw (words_length believed, words_at believed i l) at (R.each i (omega (arith, words_length believed)))
 
     -- for a column that names a row that is its rank
     ranked : (i : ℕ) → i < w → get_or scratch (cell w i y) 0 ≢ mark
-        → get_or values i 0 ≡ cost_rank g.kind w costs y i (get_or scratch (cell w i y) 0)
+        → get_or values i 0 ≡ cost_rank (kind_number kind) w costs y i (get_or scratch (cell w i y) 0)
     ranked i l n = filled i l ∙ rw (ne_eqb (get_or scratch (cell w i y) 0) mark n)
 
     -- the values that fill puts are a line that can be read
-    pub line_read : LineRead g squares (y * w) (w * h) scratch values
+    pub line_read : LineRead (y * w) (w * h) scratch values
     line_read =
         record {
           believed = rw long believed;
@@ -99,17 +83,17 @@ module _ {g : Gauge} {w h y : ℕ} {costs squares : List ℕ} (scratch : List �
         }
 
     module _ {after distances sites : List ℕ}
-        (O : LineOut g (y * w) (w * h) scratch values after distances sites) where
+        (O : LineOut kind (y * w) (w * h) scratch values after distances sites) where
       -- what comes of it is the row's map
-      row_map : (x : ℕ) → x < w → CostMapWord g.kind w h costs x y (get_or distances x 0)
-          × CostMapSite g.kind w h costs x y (get_or sites x 0)
+      row_map : (x : ℕ) → x < w → CostMapWord (kind_number kind) w h costs x y (get_or distances x 0)
+          × CostMapSite (kind_number kind) w h costs x y (get_or sites x 0)
       row_map x l =
           let row = rw long at (O.row x (omega arith)) in
-          cost_step g.kind w h costs x y (λ i. get_or scratch (cell w i y) 0) P.kind_in (λ i b. C i b y y_in)
+          cost_step (kind_number kind) w h costs x y (λ i. get_or scratch (cell w i y) 0) P.kind_in (λ i b. C i b y y_in)
           (row_word_same (λ i b. refl) ranked row)
 
       -- the row made
-      pub row_more : RowMore g.kind w h y costs scratch after distances sites
+      pub row_more : RowMore (kind_number kind) w h y costs scratch after distances sites
       row_more =
           record {
             made = record { words = λ x l. (row_map x l).0; names = λ x l. (row_map x l).1 };
@@ -143,13 +127,12 @@ row_put w y l part = put_mid (y * w) (y * w + w - y * w) l part
 pub crossing_more : {kind w h y : ℕ} {costs values scratch distances sites values' scratch' : List ℕ}
     (word_part site_part : List ℕ)
     → Crossing kind w h costs values scratch distances sites y → y < h
-    → RowMore kind (length values) h y costs scratch scratch' word_part site_part
+    → RowMore kind w h y costs scratch scratch' word_part site_part
     → length values' ≡ length values → length scratch' ≡ length scratch
     → length word_part ≡ length (row_part w y distances) → length site_part ≡ length (row_part w y sites)
     → Crossing kind w h costs values' scratch' (row_put w y distances word_part) (row_put w y sites site_part) (y + 1)
 crossing_more {kind} {w} {h} {y} {costs} {scratch = scratch} {distances = distances} {sites = sites}
     {scratch' = scratch'} word_part site_part X y_in M v s d n =
-    let M' : RowMore kind w h y costs scratch scratch' word_part site_part = rw X.values_long at M in
     let d_room : w * h ≤ length distances = omega (arith, X.distances_long) in
     let n_room : w * h ≤ length sites = omega (arith, X.sites_long) in
     let d' = d ∙ row_part_long distances refl y_in d_room in
@@ -159,7 +142,7 @@ crossing_more {kind} {w} {h} {y} {costs} {scratch = scratch} {distances = distan
       scratch_long = s ∙ X.scratch_long;
       distances_long = same_len_mid (y * w) (y * w + w - y * w) distances word_part d ∙ X.distances_long;
       sites_long = same_len_mid (y * w) (y * w + w - y * w) sites site_part n ∙ X.sites_long;
-      columns = λ i l j m. rw (M'.kept (cell w i j) (cell_in l m)) (X.columns i l j m);
+      columns = λ i l j m. rw (M.kept (cell w i j) (cell_in l m)) (X.columns i l j m);
       made =
           below_more (λ j. RowAfter kind w h costs j (λ x. get_or (row_put w y distances word_part) (cell w x j) 0)
           (λ x. get_or (row_put w y sites site_part) (cell w x j) 0)) y
@@ -167,7 +150,7 @@ crossing_more {kind} {w} {h} {y} {costs} {scratch = scratch} {distances = distan
           let above : j ≢ y = omega arith in
           row_same (X.made j l) (λ x m. put_elsewhere distances word_part refl y_in d_room d' m above)
           (λ x m. put_elsewhere sites site_part refl y_in n_room n' m above))
-          (row_same M'.made (λ x m. put_here distances word_part refl y_in d_room d' m)
+          (row_same M.made (λ x m. put_here distances word_part refl y_in d_room d' m)
           (λ x m. put_here sites site_part refl y_in n_room n' m));
       within = omega arith;
     }

@@ -1,36 +1,28 @@
 -- The cost entry: what the map leaves where none of the tests holds. The map is made in the front of each buffer, so what
--- lies beyond is as it was. Assumes nothing.
-use mathlib.Core.Path.{◌≡◌}
+-- lies beyond is as it was. The kinds that pass the tests are kinds of lines. Assumes nothing.
+use mathlib.Core.Path.{◌≡◌, refl}
+use mathlib.Core.Logic.{◌≢◌}
 use mathlib.Core.List.{List, ◌++◌}
-use Prim.Native.Nat.{ℕ, ◌*◌, ◌<◌}
-use native.Mathlib.Nat.{le_refl}
+use Prim.Native.Nat.{ℕ, zero, suc, ◌*◌, ◌≤◌, ◌<◌}
 use native.Mathlib.Omega.{arith}
 use lib.ListN.{length, get_or, drop, get_or-append}
+use Rattle.rules.specs.declared.kind.LineKind.{LineKind}
+use Rattle.rules.specs.declared.kind.LineKind.TheVariants.{Euclid, Manhattan}
+use Rattle.rules.specs.Limits.{cost_kind_limit}
+use Rattle.rules.specs.Answers.{kind_number}
 use Rattle.rules.specs.Refusals.{scratch_words}
 use Rattle.rules.specs.Accepted.{CostAccepted}
 use Rattle.rules.specs.Tie.{CostMapWord, CostMapSite}
 use Rattle.rules.specs.Calls.{buffers, Beyond, MapAfter}
 use Rattle.rules.proofs.Board.{cell_in}
 use Rattle.rules.proofs.Parts.{front_beyond}
-use Rattle.cost_lines.specs.After.{FitAccepted, RowsAfter}
+use Rattle.cost_lines.specs.After.{RowsAfter}
 
--- the lengths of the buffers do not matter where they are cut to the board's size
-pub passed : {w h kind : ℕ} {costs : List ℕ} {distances sites scratch : ℕ}
-    → CostAccepted w h kind costs distances sites scratch → FitAccepted kind w h costs
-passed A =
-    record {
-      sides = A.sides;
-      kind_in = A.kind_in;
-      lent =
-          record {
-            picture_is = A.lent.picture_is;
-            distances_from = le_refl _;
-            sites_from = le_refl _;
-            scratch_from = le_refl _;
-          };
-      costs_in = A.costs_in;
-      unmarked = A.unmarked;
-    }
+-- a kind of costs is a kind of lines
+pub line_kind : (n : ℕ) → n ≤ cost_kind_limit → ((kind : LineKind) → kind_number kind ≢ n) → ⊥
+line_kind zero l none = none Euclid refl
+line_kind (suc zero) l none = none Manhattan refl
+line_kind (suc (suc n)) l none = absurd (omega arith)
 
 -- what stands in the front of a list that has come back
 front_at : {n k : ℕ} (l front : List ℕ) → length front ≡ n → k < n → get_or (front ++ drop n l) k 0 ≡ get_or front k 0

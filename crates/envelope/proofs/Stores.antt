@@ -6,19 +6,19 @@ use Prim.Native.Nat.{ℕ, ◌+◌, ◌-◌, ◌≤◌, ◌<◌}
 use native.Mathlib.Omega.{arith}
 use lib.ListN.{length, get_or, set, length-set}
 use lib.Seq.{get_or-set_same, get_or-set_other}
-use Rattle.rules.specs.Measures.{HasParts}
-use Rattle.rules.proofs.Measures.{lawful}
-use Rattle.gauge.specs.declared.Gauge.{Gauge}
+use Rattle.rules.specs.Answers.{kind_number}
+use Rattle.rules.proofs.Measures.{lawful, has_parts}
+use Rattle.rules.specs.declared.kind.LineKind.{LineKind}
 use Rattle.gauge.specs.Line.{height_at}
 use Rattle.gauge.specs.Places.{Place}
 use Rattle.envelope.specs.Stretches.{starts, holders, Kept, Begins, Turn}
 
 -- the places where a column holds are an initial stretch
-pub initial : (g : Gauge) → HasParts g.kind → (values : List ℕ) (u i x x' : ℕ) → i < u → x' ≤ x
-    → height_at g values i x ≤ height_at g values u x → height_at g values i x' ≤ height_at g values u x'
+pub initial : (kind : LineKind) (values : List ℕ) (u i x x' : ℕ) → i < u → x' ≤ x
+    → height_at kind values i x ≤ height_at kind values u x → height_at kind values i x' ≤ height_at kind values u x'
 unfolding height_at
-initial g p values u i x x' l h t =
-    (lawful g.kind p).stretch i u (get_or values i 0) (get_or values u 0) x x' l h t
+initial kind values u i x x' l h t =
+    (lawful (kind_number kind) (has_parts kind)).stretch i u (get_or values i 0) (get_or values u 0) x x' l h t
 
 module _ {height : ℕ → ℕ → ℕ} {n u m kept place : ℕ} (work : List ℕ) (K : Kept height u m (starts work) (holders n work) kept)
     (B : Begins height n u (holders n work) kept place) where

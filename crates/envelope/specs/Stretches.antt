@@ -2,8 +2,7 @@
 -- wins there among the columns taken so far. `t k` is the start of stretch k, `s k` its holder, `m` their number, `n` the
 -- length of the line. Assumes nothing.
 use Rattle.std.specs.Prelude.{◌≡◌, List, ℕ, ◌+◌, ◌≤◌, ◌<◌, length, get_or}
-use Rattle.gauge.specs.declared.Gauge.{Gauge}
-use Rattle.gauge.specs.Line.{Gauged, Wins}
+use Rattle.gauge.specs.Line.{Line, Wins}
 use Rattle.gauge.specs.Places.{Place}
 
 -- where the stretches are kept: the starts in the first n work words, the holders in the n after them
@@ -13,9 +12,9 @@ starts work k = get_or work k 0
 abbrev pub holders : ℕ → List ℕ → ℕ → ℕ
 holders n work k = get_or work (n + k) 0
 
--- what the functions of scan 3 are given: a gauge, the squares and a line, and work words with room for the line's stretches
-pub record Given (g : Gauge) (squares values work : List ℕ) : Type 0 where
-  pub gauged : Gauged g squares values
+-- what the functions of scan 3 are given: a line, and work words with room for its stretches
+pub record Given (values work : List ℕ) : Type 0 where
+  pub line : Line values
   pub room : length work ≡ length values + length values
 
 -- the place x lies in stretch k

@@ -10,5 +10,5 @@ const STEP: f64 = 0.00390625;
 pub fn figure(n: u32) -> f64
     ensures { FigureWord (word_64 result) n }
 {
-    n as f64 * STEP
+    f64::from(n) * STEP
 }

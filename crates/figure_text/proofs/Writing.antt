@@ -1,65 +1,54 @@
--- Digits are counted by tenths, and put from the last one to the first: each stands in front of those put before it.
--- Assumes nothing.
-use mathlib.Core.Path.{◌≡◌, refl, ◌∙◌, ap}
+-- A number of at least 10^k has more than k digits, and one below 10^(k + 1) has no more than k + 1; 0 has one, as 1 has.
+-- Digits are put from the last one to the first: each stands in front of those put before it. Assumes nothing.
+use mathlib.Core.Path.{◌≡◌, ◌∙◌}
+use mathlib.Core.Logic.{by_cases}
 use mathlib.Core.List.{List, ◌∷◌}
-use Prim.Native.Nat.{ℕ, zero, suc, ◌+◌, ◌-◌, ◌/◌, ◌%◌, ◌^◌, ◌≤◌, ◌<◌}
+use Prim.Native.Nat.{ℕ, zero, suc, ◌+◌, ◌-◌, ◌*◌, ◌/◌, ◌%◌, ◌^◌, ◌≤◌, ◌<◌, max}
+use native.Mathlib.Decide.{dec_lt}
+use native.Mathlib.Nat.{one-le-pow, pow-suc}
 use native.Mathlib.Omega.{arith}
+use lib.Dec.{lit<, lit≤}
 use lib.ListN.{length, set, drop, length-set}
-use borrow.Author.Tests.{le-ltb}
+use borrow.Author.Tests.{lt-ltb, le-ltb}
+use Rattle.rules.specs.BenchFile.{decimal}
 use Rattle.rules.specs.Millimetres.{last_digits}
-use Rattle.rules.proofs.Digits.{tenth_below, stored, digit_count}
+use Rattle.rules.proofs.Digits.{stored, digit_count, decimal_count, decimal_most}
 
--- so many digits are counted, with one of the rest among them, and no more than ten are there in all
-pub record Counting (number count rest : ℕ) : Type 0 where
-  pub most : ℕ
-  pub place : count + most ≡ 10
-  pub small : rest < 10 ^ suc most
-  pub counts : count + digit_count (suc most) rest ≡ digit_count 10 number + 1
+-- a number of at least 10^k has more than k digits
+count_least : (most k n : ℕ) → k < most → 10 ^ k ≤ max n 1 → k < digit_count most n
+count_least zero k n h big = absurd (omega arith)
+count_least (suc most) zero n h big =
+    by_cases (dec_lt n 10) (λ one. rw (lt-ltb n 10 one) (lit≤ tt)) (λ more. rw (le-ltb n 10 (omega arith)) (omega arith))
+count_least (suc most) (suc k) n h big =
+    let tens : 10 ^ k * 10 ≤ max n 1 = rw (pow-suc 10 k) at big in
+    let ten : 10 ≤ n = omega (arith, one-le-pow k 10 (lit< tt)) in
+    let rest : k < digit_count most (n / 10) = count_least most k (n / 10) (omega arith) (omega arith) in
+    rw (le-ltb n 10 ten) (omega arith)
 
--- at first
-pub counting_first : {number : ℕ} → number < 10 ^ 10 → Counting number 1 number
-counting_first small = record { most = 9; place = refl; small = small; counts = omega arith }
+-- so its digits are one more than the whole part of its logarithm
+pub log_counts : (n k : ℕ) → k < 10 → 10 ^ k ≤ max n 1 → max n 1 < 10 * 10 ^ k → k + 1 ≡ length (decimal n)
+log_counts n k h big small =
+    let most : length (decimal n) ≤ suc k = decimal_most k {n = n} (rw (pow-suc 10 k) (omega arith)) in
+    omega (arith, count_least 10 k n h big, decimal_count n)
 
-module _ {number count rest : ℕ} (C : Counting number count rest) where
-  -- a rest that is not below 10 has one more
-  pub counting_more : 10 ≤ rest → Counting number (count + 1) (rest / 10)
-  counting_more h = go C.most C.place C.small C.counts
-    where
-      go : (most : ℕ) → count + most ≡ 10 → rest < 10 ^ suc most
-          → count + digit_count (suc most) rest ≡ digit_count 10 number + 1 → Counting number (count + 1) (rest / 10)
-      go zero place small counts = absurd (omega arith)
-      go (suc most) place small counts =
-          let one : digit_count (suc (suc most)) rest ≡ suc (digit_count (suc most) (rest / 10)) =
-          rw (le-ltb rest 10 h) refl in
-          record {
-            most = most;
-            place = omega arith;
-            small = tenth_below (suc most) small;
-            counts = omega arith;
-          }
-
--- the digits from place i on are put; those of the rest are to come, i of them
+-- the digits from place i on are put; those of the rest are to come, in front of it
 pub record Placing (begin count number : ℕ) (before now : List ℕ) (rest i : ℕ) : Type 0 where
-  pub within : i ≤ count
+  pub from : begin ≤ i
   pub as_long : length now ≡ length before
-  pub reads : last_digits i rest (drop (begin + i) now) ≡ last_digits count number (drop (begin + count) before)
+  pub reads : last_digits (i - begin) rest (drop i now) ≡ last_digits count number (drop (begin + count) before)
 
 module _ {begin count number : ℕ} {before now : List ℕ} {rest i : ℕ} (P : Placing begin count number before now rest i) where
   -- one digit more
-  pub placing_more : 0 < i → begin + count ≤ length before
-      → Placing begin count number before (set now (begin + (i - 1)) (48 + rest % 10)) (rest / 10) (i - 1)
+  pub placing_more : begin < i → i ≤ length before
+      → Placing begin count number before (set now (i - 1) (48 + rest % 10)) (rest / 10) (i - 1)
   placing_more some room =
       let j : ℕ = i - 1 in
       let v : ℕ = 48 + rest % 10 in
-      let after : suc j ≡ i = omega arith in
-      let next : begin + j + 1 ≡ begin + i = omega arith in
-      let all : List ℕ = last_digits count number (drop (begin + count) before) in
-      let reads : last_digits (suc j) rest (drop (begin + i) now) ≡ all =
-      ap (λ k. last_digits k rest (drop (begin + i) now)) after ∙ P.reads in
+      let left : i - begin ≡ suc (j - begin) = omega arith in
+      let next : j + 1 ≡ i = omega arith in
+      let put : drop j (set now j v) ≡ v ∷ drop i now = rw next at (stored now j v (omega (arith, P.as_long))) in
       record {
-        within = omega (arith, P.within);
-        as_long = length-set now (begin + j) v ∙ P.as_long;
-        reads =
-            ap (last_digits j (rest / 10)) (stored now (begin + j) v (omega (arith, P.as_long, P.within)))
-            ∙ ap (λ k. last_digits j (rest / 10) (v ∷ drop k now)) next ∙ reads;
+        from = omega arith;
+        as_long = length-set now j v ∙ P.as_long;
+        reads = rw put (rw left at P.reads);
       }

@@ -13,20 +13,12 @@ const WHOLE: u32 = 256;
 const PART: u32 = 390_625;
 // The digits after the point.
 const TAIL: usize = 8;
-// The byte of the digit 0; those of 1 to 9 follow it.
-const ZERO: u32 = 48;
 
 // How many digits a number has, 1 for 0.
 fn digit_count(number: u32) -> usize
     ensures { result ≡ length (decimal number) }
 {
-    let mut count = 1;
-    let mut rest = number;
-    while 10 <= rest {
-        rest /= 10;
-        count += 1;
-    }
-    count
+    number.max(1).ilog10() as usize + 1
 }
 
 // Puts so many last digits of a number from the place `begin` on, with zeros in front where it has fewer.
@@ -35,10 +27,8 @@ fn put_digits(text: &mut [u8], begin: usize, count: usize, number: u32)
     ensures { Placed begin count number text.old text.new }
 {
     let mut rest = number;
-    let mut i = count;
-    while 0 < i {
-        i -= 1;
-        text[begin + i] = (ZERO + rest % 10) as u8;
+    for i in (begin..begin + count).rev() {
+        text[i] = b'0' + (rest % 10) as u8;
         rest /= 10;
     }
 }

@@ -4,14 +4,14 @@
 use mathlib.Core.Path.{◌≡◌, refl, ap, ◌∙◌}
 use mathlib.Core.Logic.{◌↔◌, ◌⊎◌, inl, inr}
 use mathlib.Core.List.{List}
-use Prim.Native.Nat.{ℕ, zero, suc, ◌+◌, ◌-◌, ◌*◌, ◌/◌, ◌≤◌, ◌<◌, min, max}
+use Prim.Native.Nat.{ℕ, ◌+◌, ◌-◌, ◌*◌, ◌/◌, ◌≤◌, ◌<◌, min, max}
 use native.Mathlib.Nat.{le-div_iff_mul-le, mul-add, lt_of_not-le}
 use native.Mathlib.Omega.{arith}
 use Rattle.rules.specs.Board.{away}
 use Rattle.rules.specs.Measures.{HasParts, measure, HoldsAt}
 use Rattle.rules.proofs.Board.{away_square, Lies, lies, left, between, right}
 use lib.ListN.{length, get_or}
-use Rattle.gauge.specs.declared.Gauge.{Gauge}
+use Rattle.rules.specs.declared.kind.LineKind.{LineKind}
 use Rattle.gauge.specs.Line.{measured, height_at}
 use Rattle.gauge.specs.Places.{Last, Place}
 
@@ -113,24 +113,18 @@ apart_below x i = omega arith
 pub third_kind : {kind : ℕ} → HasParts kind → (kind ≡ 0 → ⊥) → (kind ≡ 1 → ⊥) → kind ≡ 2
 third_kind p a b = omega (arith, p.kind_in, p.no_chamfer)
 
--- in the other kinds but 0 a difference of rows is lifted to itself
-pub flat_lift : (kind dy : ℕ) → (kind ≡ 0 → ⊥) → dy ≡ (measure kind).lift dy
-flat_lift zero dy other = absurd (other refl)
-flat_lift (suc zero) dy other = refl
-flat_lift (suc (suc k)) dy other = refl
-
 -- the place where i stops holding, from the last place that it holds
-pub place_of : (g : Gauge) (values : List ℕ) (i u p r : ℕ) → let n = length values in
-    Last (measured g) n i u (get_or values i 0) (get_or values u 0) p → ((p + 1 < n) × (r ≡ p + 1)) ⊎ ((n ≤ p + 1) × (r ≡ n))
-    → Place (height_at g values) n i u r
+pub place_of : (kind : LineKind) (values : List ℕ) (i u p r : ℕ) → let n = length values in
+    Last (measured kind) n i u (get_or values i 0) (get_or values u 0) p → ((p + 1 < n) × (r ≡ p + 1)) ⊎ ((n ≤ p + 1) × (r ≡ n))
+    → Place (height_at kind values) n i u r
 unfolding height_at
-place_of g values i u p r L (inl e) =
+place_of kind values i u p r L (inl e) =
     record {
       on_line = omega arith;
       holds = λ x h. L.holds x (omega arith) (omega arith);
       stops = λ h. rw e.1 (L.stops e.0);
     }
-place_of g values i u p r L (inr e) =
+place_of kind values i u p r L (inr e) =
     record {
       on_line = omega arith;
       holds = λ x h. L.holds x (omega arith) (omega arith);

@@ -12,7 +12,7 @@ pub record Place (height : ℕ → ℕ → ℕ) (n i u r : ℕ) : Type 0 where
   pub stops : r < n → height u r < height i r
 
 -- two columns i < u of a line of n places, and the values that they hold
-pub record Pair (n i u a b : ℕ) : Type 0 where
+pub record IsPair (n i u a b : ℕ) : Type 0 where
   pub apart : i < u
   pub column_in : u < n
   pub line_to : n ≤ side_limit

@@ -2,7 +2,7 @@
 --
 -- What opening a setting answers, by how it goes: the pitch bad, the radius bad, or both good. A setting that the rules
 -- do not refuse opens, so where a value is bad the rules refuse it; one that opens they do not refuse. Assumes nothing.
-use Rattle.std.proofs.Common.{◌≡◌, ℕ, true, refl, ap, arith}
+use Rattle.std.proofs.Common.{◌≡◌, ℕ, Option, Some, None, true, refl, ap, arith}
 use Rattle.rules.specs.declared.Setting.{Setting}
 use Rattle.rules.specs.Knob.{Good, pitch_word, radius_word}
 use Rattle.rules.specs.Refusals.{bad_setting}
@@ -10,16 +10,14 @@ use Rattle.rules.specs.Calls.{Opened, OpeningCall}
 use Rattle.rules.proofs.Knob.{good_k_unique, setting_good, opened_good}
 use Rattle.rules.proofs.Refusals.{holds_unless}
 use Rattle.rules.proofs.Calls.{refused_call, made_call}
-use Rattle.knob.specs.declared.Value.{Value}
-use Rattle.knob.specs.declared.Value.TheVariants.{Whole, Bad}
 use Rattle.knob.specs.Value.{Opens}
 
 -- what opening a value answers is pinned
-pub value_pinned : (word : ℕ) (r r' : Value) → Opens word r → Opens word r' → r ≡ r'
-value_pinned word (Whole k) (Whole k') p q = ap Whole (good_k_unique p q)
-value_pinned word (Whole k) Bad p q = absurd (q k p)
-value_pinned word Bad (Whole k) p q = absurd (p k q)
-value_pinned word Bad Bad p q = refl
+pub value_pinned : (word : ℕ) (r r' : Option ℕ) → Opens word r → Opens word r' → r ≡ r'
+value_pinned word (Some k) (Some k') p q = ap Some (good_k_unique p q)
+value_pinned word (Some k) None p q = absurd (q k p)
+value_pinned word None (Some k) p q = absurd (p k q)
+value_pinned word None None p q = refl
 
 -- a setting that does not open is refused
 refused : (s : Setting) → ((a b : ℕ) → Opened s a b → ⊥) → OpeningCall s 8 0 0

@@ -1,18 +1,21 @@
 -- The four sides of a cell hold its neighbours and nothing else, and the cells on them have rising numbers: the cell on
 -- side k has the number c − w + `place w k`, and the places rise with k. Assumes nothing.
-use mathlib.Core.Path.{◌≡◌, ap, ◌∙◌}
+use mathlib.Core.Path.{◌≡◌, refl, ap, ◌∙◌, subst}
 use mathlib.Core.Logic.{◌≢◌, by_cases}
 use mathlib.Core.List.{List}
 use Prim.Native.Nat.{ℕ, zero, suc, ◌+◌, ◌-◌, ◌*◌, ◌≤◌, ◌<◌}
-use native.Mathlib.Nat.{le_refl, le_trans, mod-lt, mod-le, mul-mod_left, div-add-mod'}
+use native.Mathlib.Nat.{le_refl, le_trans, mod-lt, mod-le, mul-mod_left, mul-mod_right, div-add-mod'}
 use native.Mathlib.Decide.{ℕ_discrete}
 use native.Mathlib.Omega.{arith}
-use lib.ListN.{length}
+use Rattle.std.proofs.Common.{Option, Some, None}
+use lib.ListN.{length, get_or}
 use lib.Arith.{digits_mod}
 use Rattle.rules.specs.Board.{column, row}
 use Rattle.rules.specs.Lane.{Neighbours}
 use Rattle.rules.proofs.Lane.{right, left, down, up, neighbours_beside}
-use Rattle.lane_flood.specs.Around.{InRows, Lists, Lies, Side}
+use Rattle.lane_flood.specs.declared.sides.Side.TheVariants.{Above}
+use Rattle.lane_flood.specs.declared.sides.TheConstants.{SIDES}
+use Rattle.lane_flood.specs.Around.{side_number, InRows, Lists, Lies, Beside}
 
 -- lists that keep their lengths are still the lists of a flood
 pub lists_kept : {w : ℕ} (words labels queue labels' queue' : List ℕ) → Lists w words labels queue
@@ -73,26 +76,40 @@ pub lies_rising : (w c p q j k : ℕ) → 0 < w → j ≤ k → Lies w c j p →
 lies_rising w c p q j k pos h l m =
     omega (arith, lies_place w c p j pos l, lies_place w c q k pos m, place_rising w j k pos h)
 
-module _ {w n : ℕ} (b : InRows w n) (c : ℕ) where
+-- the side at place k of the list of the four has the number k
+pub side_at : {w n c k : ℕ} {answer : Option ℕ} → k < 4 → Beside w n c (side_number (get_or SIDES k Above)) answer
+    → Beside w n c k answer
+side_at {w} {n} {c} {k} {answer} h b = subst (λ i. Beside w n c i answer) (number k h) b
+  where
+    number : (k : ℕ) → k < 4 → side_number (get_or SIDES k Above) ≡ k
+    number zero h = refl
+    number (suc zero) h = refl
+    number (suc (suc zero)) h = refl
+    number (suc (suc (suc zero))) h = refl
+    number (suc (suc (suc (suc k)))) h = absurd (omega arith)
+
+module _ {w n : ℕ} (b : InRows w n) {c : ℕ} (c_in : c < n) where
   -- the cell above
-  pub above : w ≤ c → Side w n c 0 (c - w)
+  pub above : w ≤ c → Beside w n c 0 (Some (c - w))
   unfolding Lies
-  above h = record { lies = λ l. omega arith; only = λ q l e. omega arith }
+  above h = record { lies = (omega arith, omega arith); only = λ q l e. ap Some (omega arith) }
 
   -- no cell is above one of the first row
-  pub none_above : c < w → Side w n c 0 n
+  pub none_above : c < w → Beside w n c 0 None
   unfolding Lies
-  none_above h = record { lies = λ l. absurd (omega arith); only = λ q l e. absurd (omega arith) }
+  none_above h = record { lies = tt; only = λ q l e. absurd (omega arith) }
 
   -- the cell to the left
-  pub to_left : column w c ≢ 0 → Side w n c 1 (c - 1)
+  pub to_left : column w c ≢ 0 → Beside w n c 1 (Some (c - 1))
   unfolding Lies
-  to_left h = record { lies = λ l. (omega (arith, mod-le c w), h); only = λ q l e. omega arith }
+  to_left h =
+      let more : 0 < c = omega (arith, mod-le c w) in
+      record { lies = (omega arith, (omega arith, h)); only = λ q l e. ap Some (omega arith) }
 
   -- none is to the left of the first column
-  pub none_left : column w c ≡ 0 → Side w n c 1 n
+  pub none_left : column w c ≡ 0 → Beside w n c 1 None
   unfolding Lies
-  none_left h = record { lies = λ l. absurd (omega arith); only = λ q l e. absurd (e.1 h) }
+  none_left h = record { lies = tt; only = λ q l e. absurd (e.1 h) }
 
   -- the next cell's column: the next one, unless this one is the last
   column_next : column w c + 1 < w → column w (c + 1) ≡ column w c + 1
@@ -106,23 +123,36 @@ module _ {w n : ℕ} (b : InRows w n) (c : ℕ) where
       let e : (row w c + 1) * w ≡ c + 1 = omega (arith, div-add-mod' c w) in
       rw e at (mul-mod_left (row w c + 1) w)
 
-  -- the cell to the right
-  pub to_right : column w c + 1 ≢ w → Side w n c 2 (c + 1)
+  -- the cell to the right, which is one, since the last cell stands in the last column
+  pub to_right : column w c + 1 ≢ w → Beside w n c 2 (Some (c + 1))
   unfolding Lies
   to_right h =
       let in_row : column w c + 1 < w = omega (arith, mod-lt c b.from) in
-      record { lies = λ l. (omega arith, omega (arith, column_next in_row)); only = λ q l e. omega arith }
+      record {
+        lies = (not_last in_row, (refl, omega (arith, column_next in_row)));
+        only = λ q l e. ap Some (omega arith);
+      }
+    where
+      -- the cell after the last is the first of a row
+      end : c + 1 ≡ n → column w (c + 1) ≡ 0
+      end e = rw (e, b.whole) (mul-mod_right w b.rows)
+
+      not_last : column w c + 1 < w → c + 1 < n
+      not_last h =
+          by_cases (ℕ_discrete (c + 1) n) (λ e. absurd (omega (arith, column_next h, end e))) (λ ne. omega arith)
 
   -- none is to the right of the last column
-  pub none_right : column w c + 1 ≡ w → Side w n c 2 n
+  pub none_right : column w c + 1 ≡ w → Beside w n c 2 None
   unfolding Lies
   none_right h =
-      record {
-        lies = λ l. absurd (omega arith);
-        only = λ q l e. absurd (e.1 (ap (column w) e.0 ∙ column_last h));
-      }
+      record { lies = tt; only = λ q l e. absurd (e.1 (ap (column w) e.0 ∙ column_last h)) }
 
   -- the cell below
-  pub below : Side w n c 3 (c + w)
+  pub below : c + w < n → Beside w n c 3 (Some (c + w))
   unfolding Lies
-  below = record { lies = λ l. omega arith; only = λ q l e. omega arith }
+  below h = record { lies = (h, refl); only = λ q l e. ap Some (omega arith) }
+
+  -- no cell is below one of the last row
+  pub none_below : n ≤ c + w → Beside w n c 3 None
+  unfolding Lies
+  none_below h = record { lies = tt; only = λ q l e. absurd (omega arith) }

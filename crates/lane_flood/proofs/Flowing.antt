@@ -11,7 +11,8 @@ use native.Mathlib.Omega.{arith}
 use borrow.Author.Count.{below_more}
 use Rattle.rules.specs.Lane.{Neighbours}
 use Rattle.rules.proofs.Lane.{neighbours_sym}
-use Rattle.lane_flood.specs.Around.{Lies, Side}
+use Rattle.std.proofs.Common.{Some, None}
+use Rattle.lane_flood.specs.Around.{Lies, Beside}
 use Rattle.lane_flood.specs.Labelling.{Led, Labels, marks, Flow, Sided}
 use Rattle.lane_flood.proofs.Around.{around}
 use Rattle.lane_flood.proofs.Marks.{marks_le, marks_more}
@@ -91,8 +92,21 @@ module _ {w n : ℕ} {word : ℕ → ℕ} {v to : ℕ} where
         let l = F.labelled head more in
         rw is (inside, l, labels_few (queue head) inside l)
 
+    -- where no cell is on a side, that side is done
+    pub side_empty : {k : ℕ} → Beside w n (queue head) k None → Sided w n word v label (queue head) k
+        → Sided w n word v label (queue head) (k + 1)
+    side_empty {k} side S =
+        record {
+          each =
+              λ j q h l lies broad.
+              by_cases (dec_lt j k) (λ b. S.each j q b l lies broad)
+              (λ o.
+              let none : None ≡ Some q = side.only q l (subst (λ i. Lies w (queue head) i q) (omega arith) lies) in
+              absurd (cc));
+        }
+
     -- a cell that is passed over was labelled before
-    pub side_passed : {k p : ℕ} → head < tail → Side w n (queue head) k p → (p < n → v ≤ word p → 0 < label p)
+    pub side_passed : {k p : ℕ} → head < tail → Beside w n (queue head) k (Some p) → (p < n → v ≤ word p → 0 < label p)
         → Sided w n word v label (queue head) k → Sided w n word v label (queue head) (k + 1)
     side_passed {k} {p} more side old S = record { each = each }
       where
@@ -106,7 +120,8 @@ module _ {w n : ℕ} {word : ℕ → ℕ} {v to : ℕ} where
         each j q h l lies broad =
             by_cases (dec_lt j k) (λ b. S.each j q b l lies broad)
             (λ o.
-            let e : q ≡ p = side.only q l (subst (λ i. Lies w (queue head) i q) (omega arith) lies) in
+            let only : Some p ≡ Some q = side.only q l (subst (λ i. Lies w (queue head) i q) (omega arith) lies) in
+            let e : q ≡ p = cc in
             known q l (rw e (old (rw e at l) (rw e at broad))))
 
     -- the head moves on when its four sides are done
@@ -184,7 +199,7 @@ module _ {w n : ℕ} {word : ℕ → ℕ} {v to : ℕ} where
       grown q c l b = rw (kept q b.0, kept c l) b
 
       -- the side that it stands on is done
-      pub side_entered : {k : ℕ} → Side w n (queue head) k p
+      pub side_entered : {k : ℕ} → Beside w n (queue head) k (Some p)
           → Sided w n word v label (queue head) k → Sided w n word v label' (queue' head) (k + 1)
       side_entered {k} side S = record { each = each }
         where
@@ -196,7 +211,8 @@ module _ {w n : ℕ} {word : ℕ → ℕ} {v to : ℕ} where
               by_cases (dec_lt j k)
               (λ b. rw at_head (grown q (queue head) (F.labelled head more) (S.each j q b l lies' wide)))
               (λ o.
-              let e : q ≡ p = side.only q l (subst (λ i. Lies w (queue head) i q) (omega arith) lies') in
+              let only : Some p ≡ Some q = side.only q l (subst (λ i. Lies w (queue head) i q) (omega arith) lies') in
+              let e : q ≡ p = cc in
               omega (arith, ap label' e, new, place_kept head more))
 
       -- and the flood goes on

@@ -1,6 +1,6 @@
 -- The flood in its lists. The first stores begin it; and when a side of the head comes up, what `touch` leaves is a flood
 -- under way with one more side done. Assumes nothing.
-use mathlib.Core.Path.{◌≡◌, refl, ◌∙◌, sym, ap, subst}
+use mathlib.Core.Path.{◌≡◌, ◌∙◌, sym, ap, subst}
 use mathlib.Core.Logic.{◌≢◌}
 use mathlib.Core.List.{List}
 use Prim.Native.Nat.{ℕ, ◌+◌, ◌≤◌, ◌<◌}
@@ -8,11 +8,12 @@ use native.Mathlib.Omega.{arith}
 use lib.ListN.{length, set, length-set}
 use lib.Seq.{get_or-set_same, get_or-set_other}
 use Rattle.rules.specs.Lane.{Neighbours}
-use Rattle.lane_flood.specs.Around.{Side}
+use Rattle.std.proofs.Common.{Some, None}
+use Rattle.lane_flood.specs.Around.{Beside}
 use Rattle.lane_flood.specs.Labelling.{at, Flow, Sided, Touched, passed, entered}
 use Rattle.lane_flood.proofs.Around.{lies_near}
 use Rattle.lane_flood.proofs.Marks.{marks_room, marks_none, marks_more}
-use Rattle.lane_flood.proofs.Flowing.{flow_begins, from_origin, side_passed, side_entered, flow_enters, head_moves}
+use Rattle.lane_flood.proofs.Flowing.{flow_begins, from_origin, side_empty, side_passed, side_entered, flow_enters, head_moves}
 
 -- the far end gets its label and enters the queue, when no cell has a label
 pub begun : {w v to : ℕ} (words labels queue : List ℕ) → length labels ≡ length words → length queue ≡ length words
@@ -42,23 +43,6 @@ pub record Spreading (w : ℕ) (words : List ℕ) (v to head c d : ℕ) (labels 
   pub flow : Flow w (length words) (at words) v to (at labels) (at queue) head tail
   pub sides : Sided w (length words) (at words) v (at labels) c k
 
--- the head's cell is read, and no side has come up
-pub none_touched : {w : ℕ} {words : List ℕ} {v to head c : ℕ} {labels queue : List ℕ} {tail : ℕ}
-    → length labels ≡ length words → length queue ≡ length words → head < tail → c ≡ at queue head
-    → Flow w (length words) (at words) v to (at labels) (at queue) head tail
-    → Spreading w words v to head c (at labels c + 1) labels queue tail 0
-none_touched a b more is F =
-    record {
-      labels_long = a;
-      queue_long = b;
-      sides_in = omega arith;
-      more = more;
-      cell_is = is;
-      label_is = refl;
-      flow = F;
-      sides = record { each = λ j p h. absurd (omega arith) };
-    }
-
 module _ {w : ℕ} {words : List ℕ} {v to head c d : ℕ} {labels queue : List ℕ} {tail k : ℕ}
     (S : Spreading w words v to head c d labels queue tail k) where
   -- where a cell has no label the queue has room
@@ -71,8 +55,22 @@ module _ {w : ℕ} {words : List ℕ} {v to head c d : ℕ} {labels queue : List
       let four : k ≡ 4 = omega (arith, S.sides_in) in
       head_moves S.flow pos S.more (rw (S.cell_is, four) at S.sides)
 
-  -- no side has come up but those before k, and side k comes up
-  pub touched : {p tail' : ℕ} {labels' queue' : List ℕ} → 0 < w → k < 4 → Side w (length words) c k p
+  -- side k has no cell
+  pub none_touched : k < 4 → Beside w (length words) c k None → Spreading w words v to head c d labels queue tail (k + 1)
+  none_touched k_in side =
+      record {
+        labels_long = S.labels_long;
+        queue_long = S.queue_long;
+        sides_in = omega arith;
+        more = S.more;
+        cell_is = S.cell_is;
+        label_is = S.label_is;
+        flow = S.flow;
+        sides = rw S.cell_is (side_empty S.flow (rw S.cell_is at side) (rw S.cell_is at S.sides));
+      }
+
+  -- the cell on side k comes up
+  pub touched : {p tail' : ℕ} {labels' queue' : List ℕ} → 0 < w → k < 4 → Beside w (length words) c k (Some p)
       → Touched (length words) v p d words labels queue tail labels' queue' tail'
       → Spreading w words v to head c d labels' queue' tail' (k + 1)
   touched {p} {tail'} {labels'} {queue'} pos k_in side (passed old e f g) =
@@ -104,7 +102,7 @@ module _ {w : ℕ} {words : List ℕ} {v to head c d : ℕ} {labels queue : List
       })
     where
       near : Neighbours w (at queue head) p
-      near = rw S.cell_is at (lies_near w c p k pos (side.lies p_in))
+      near = rw S.cell_is at (lies_near w c p k pos side.lies.1)
 
       new : at (set labels p d) p ≡ at labels (at queue head) + 1
       new = get_or-set_same labels p d 0 (omega (arith, S.labels_long)) ∙ rw S.cell_is at S.label_is

@@ -7,13 +7,12 @@ ghost use Rattle.std.specs.Prelude.{◌+◌, ◌^◌, ◌<◌, ◌≡◌, length
 ghost use Rattle.lane_flood.specs.Around.{Lists};
 ghost use Rattle.lane_flood.specs.Labelling.{at, Labels, Flow, Touched};
 
-use crate::sides::beside;
-use rules::as_index;
+use crate::sides::{SIDES, beside};
 use set_words::set_all;
 
 pub mod sides;
 
-// The cell p, if it is one, comes up with the label d. Answers how many cells have entered the queue.
+// The cell p comes up with the label d. Answers how many cells have entered the queue.
 fn touch(
     v: u32,
     p: usize,
@@ -23,18 +22,15 @@ fn touch(
     queue: &mut [u32],
     tail: usize,
 ) -> usize
-    requires { (length labels.old ≡ length words.now) × (length queue.old ≡ length words.now)
-        × (length words.now < 2 ^ 32) × (p < length words.now → at labels.old p ≡ 0 → tail < length words.now) }
+    requires labels_long { length labels.old ≡ length words.now }
+    requires queue_long { length queue.old ≡ length words.now }
+    requires numbered { length words.now < 2 ^ 32 }
+    requires inside { p < length words.now }
+    requires room { at labels.old p ≡ 0 → tail < length words.now }
     ensures { Touched (length words.now) v p d words.now labels.old
         queue.old tail labels.new queue.new result }
 {
-    if words.len() <= p {
-        return tail;
-    }
-    if words[p] < v {
-        return tail;
-    }
-    if labels[p] != 0 {
+    if words[p] < v || labels[p] != 0 {
         return tail;
     }
     labels[p] = d;
@@ -52,31 +48,32 @@ fn spread(
     head: usize,
     entered: usize,
 ) -> usize
-    requires { Lists w words.now labels.old queue.old × (head < entered)
-        × Flow w (length words.now) (at words.now) v (at queue.old 0) (at labels.old) (at queue.old) head entered }
+    // No struct for the board and its lists, which travel together: a ghost field beside a `&mut` gets no proof.
+    requires lists { Lists w words.now labels.old queue.old }
+    requires more { head < entered }
+    requires flow { Flow w (length words.now) (at words.now) v (at queue.old 0) (at labels.old) (at queue.old)
+        head entered }
     ensures { Flow w (length words.now) (at words.now) v (at queue.old 0)
         (at labels.new) (at queue.new) (head + 1) result }
 {
     let n = words.len();
-    let c = as_index(queue[head]);
+    let c = queue[head] as usize;
     let d = labels[c] + 1;
     let x = c % w;
     let mut tail = entered;
-    let mut k = 0;
-    while k < 4 {
-        let p = beside(w, n, x, c, k);
-        tail = touch(v, p, d, words, labels, queue, tail);
-        k += 1;
+    for side in SIDES {
+        if let Some(p) = beside(w, n, x, c, side) {
+            tail = touch(v, p, d, words, labels, queue, tail);
+        }
     }
     tail
 }
 
 // From one cell in the queue until every cell in it has come up.
 fn flow(w: usize, v: u32, words: &[u32], labels: &mut [u32], queue: &mut [u32])
-    requires { Lists w words.now labels.old queue.old
-        × Flow w (length words.now) (at words.now) v (at queue.old 0) (at labels.old) (at queue.old) 0 1 }
-    ensures { Labels w (length words.now) (at words.now) v (at queue.old 0)
-        (at labels.new) }
+    requires lists { Lists w words.now labels.old queue.old }
+    requires begun { Flow w (length words.now) (at words.now) v (at queue.old 0) (at labels.old) (at queue.old) 0 1 }
+    ensures { Labels w (length words.now) (at words.now) v (at queue.old 0) (at labels.new) }
 {
     let mut head = 0;
     let mut tail = 1;
@@ -88,7 +85,8 @@ fn flow(w: usize, v: u32, words: &[u32], labels: &mut [u32], queue: &mut [u32])
 
 // The flood from the cell `to` over the cells whose word is at least v.
 pub fn flood(w: usize, v: u32, to: usize, words: &[u32], labels: &mut [u32], queue: &mut [u32])
-    requires { Lists w words.now labels.old queue.old × (to < length words.now) }
+    requires lists { Lists w words.now labels.old queue.old }
+    requires inside { to < length words.now }
     ensures { Labels w (length words.now) (at words.now) v to (at labels.new) }
 {
     set_all(labels, 0);

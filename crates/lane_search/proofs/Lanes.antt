@@ -4,7 +4,7 @@
 -- width. The walk down the labels of a flood at that width is the best lane. Assumes nothing.
 use mathlib.Core.Path.{◌≡◌, refl, ◌∙◌, sym, ap, subst}
 use mathlib.Core.Logic.{by_cases}
-use mathlib.Core.Bool.{Bool, true, false}
+use mathlib.Core.Bool.{Bool}
 use mathlib.Core.List.{List, [], ◌∷◌}
 use Prim.Native.Nat.{ℕ, zero, suc, ◌+◌, ◌-◌, ◌*◌, ◌≤◌, ◌<◌, min}
 use native.Mathlib.Decide.{dec_le}
@@ -20,8 +20,8 @@ use Rattle.rules.proofs.Lane.{All, wide_iff, width_le, lane_exists, lane_first}
 use Rattle.rules.proofs.LaneLabels.{Flooded, Descends, none_as_wide, reached, best_by_widest}
 use Rattle.rules.specs.Limits.{mark}
 use Rattle.rules.proofs.Parts.{put_inside}
-use Rattle.lane_flood.specs.Around.{InRows, Lists}
-use Rattle.lane_flood.specs.Labelling.{at, Descending, Labels}
+use Rattle.lane_flood.specs.Around.{Lists}
+use Rattle.lane_flood.specs.Labelling.{at, Labels}
 use Rattle.lane_search.specs.Course.{Wide, Between, AsWide, Walked, Laid}
 
 module _ {w : ℕ} (h : ℕ) {word : ℕ → ℕ} {v to : ℕ} {label : ℕ → ℕ} (L : Labels w (w * h) word v to label) where
@@ -117,17 +117,6 @@ module _ {w n : ℕ} {word : ℕ → ℕ} {from to : ℕ} where
         none = λ h whole cells lane. omega (arith, ends_wide w h from to word cells lane);
       }
 
-  module _ {low high middle : ℕ} {answer : Bool} (B : Between w n word from to low high)
-      (R : AsWide w n word from to middle answer) where
-    -- some lane is as wide as the middle
-    pub halving_up : answer ≡ true → Between w n word from to middle high
-    halving_up e = record { some = R.yes e; none = B.none }
-
-    -- none is
-    pub halving_down : answer ≡ false → Between w n word from to low (middle - 1)
-    halving_down e =
-        record { some = B.some; none = λ h whole cells lane. omega (arith, R.no e h whole cells lane) }
-
   -- a flood at the width reaches the near end
   pub width_reached : {v : ℕ} {label : ℕ → ℕ} (h : ℕ) → n ≡ w * h → Between w n word from to v v
       → Labels w n word v to label → 0 < label from
@@ -155,18 +144,12 @@ module _ {w n : ℕ} {word : ℕ → ℕ} {from to : ℕ} where
       (best_by_widest (flooded h L') from (take m (drop 1 path)) (rw whole at inside) (L.wide from inside more)
       (B.none h whole) (rw W.first at d))
 
-module _ {w : ℕ} {words labels path : List ℕ} {from to v : ℕ} (T : Lists w words labels path) (inside : from < length words)
-    (B : Between w (length words) (at words) from to v v) (L : Labels w (length words) (at words) v to (at labels)) where
-  -- what the walk asks after a flood at the width
-  pub walkable : InRows w (length labels) × Descending w (length labels) (at labels) × (length path ≡ length labels)
-      × (from < length labels) × (0 < at labels from)
-  walkable =
-      rw T.labels_long
-      (T.board, L.descending, T.queue_long, inside, width_reached T.board.rows T.board.whole B L)
-
-  module _ {cells : ℕ} (W : Walked w (length labels) (at labels) from cells (at path)) where
+module _ {w : ℕ} {words labels path : List ℕ} {from to v cells : ℕ} (T : Lists w words labels path)
+    (inside : from < length words) (B : Between w (length words) (at words) from to v v)
+    (L : Labels w (length words) (at words) v to (at labels)) (W : Walked w (length labels) (at labels) from cells (at path))
+  where
     -- no more cells than the board has
-    pub walk_few : cells ≤ length words
+    walk_few : cells ≤ length words
     walk_few = omega (arith, W.cells_is, L.descending.few from inside)
 
     -- the labels cleared and the rest of the path marked: the best lane is laid

@@ -10,9 +10,10 @@ use native.Mathlib.Omega.{arith}
 use lib.ListN.{length, set, length-set}
 use lib.Seq.{get_or-set_same, get_or-set_other}
 use Rattle.rules.specs.Lane.{Neighbours}
-use Rattle.lane_flood.specs.Around.{Lies, Side}
+use Rattle.std.proofs.Common.{Option, Some}
+use Rattle.lane_flood.specs.Around.{Lies, Beside}
 use Rattle.lane_flood.specs.Labelling.{at, Descending}
-use Rattle.lane_search.specs.Course.{Down, Walked}
+use Rattle.lane_search.specs.Course.{Down}
 use Rattle.lane_flood.proofs.Around.{around, lies_near, lies_rising}
 
 -- the sides of c before k do not lead to the label l, and one from k on does
@@ -43,9 +44,9 @@ module _ {w n : ℕ} {label : ℕ → ℕ} {c : ℕ} (pos : 0 < w) where
         leads = omega arith;
       }
 
-  module _ {l k p : ℕ} (S : Seeking w n label c l k) (at_Side : Side w n c k p) where
+  module _ {l k : ℕ} {answer : Option ℕ} (S : Seeking w n label c l k) (B : Beside w n c k answer) where
     -- side k does not lead there
-    pub seek_on : (p < n → label p ≢ l) → Seeking w n label c l (k + 1)
+    pub seek_on : ((p : ℕ) → answer ≡ Some p → label p ≢ l) → Seeking w n label c l (k + 1)
     seek_on miss =
         record {
           passed = passed;
@@ -61,31 +62,32 @@ module _ {w n : ℕ} {label : ℕ → ℕ} {c : ℕ} (pos : 0 < w) where
         meets : k ≡ S.side → ⊥
         meets e =
             let here : Lies w c k S.cell = subst (λ j. Lies w c j S.cell) (sym e) S.lies in
-            let is : S.cell ≡ p = at_Side.only S.cell S.cell_in here in
-            miss (rw is at S.cell_in) (sym (ap label is) ∙ S.leads)
+            miss S.cell (B.only S.cell S.cell_in here) S.leads
 
         passed : (j q : ℕ) → j < k + 1 → q < n → Lies w c j q → label q ≢ l
-        passed j q h q_in lies leads =
-            by_cases (dec_lt j k) (λ b. S.passed j q b q_in lies leads)
+        passed j q h q_in lies =
+            by_cases (dec_lt j k) (λ b. S.passed j q b q_in lies)
             (λ o.
             let same : j ≡ k = omega arith in
-            let is : q ≡ p = at_Side.only q q_in (subst (λ i. Lies w c i q) same lies) in
-            miss (rw is at q_in) (sym (ap label is) ∙ leads))
+            miss q (B.only q q_in (subst (λ i. Lies w c i q) same lies)))
 
     -- side k leads there
-    pub seek_ends : p < n → label p ≡ l → l + 1 ≡ label c → Down w n label c p
-    seek_ends inside is one =
+    pub seek_ends : {p : ℕ} → answer ≡ Some p → label p ≡ l → l + 1 ≡ label c → Down w n label c p
+    seek_ends {p} some is one =
         record {
-          inside = inside;
-          near = lies_near w c p k pos (at_Side.lies inside);
+          inside = there.0;
+          near = lies_near w c p k pos there.1;
           lesser = omega arith;
           least = least;
         }
       where
+        there : (p < n) × Lies w c k p
+        there = rw some at B.lies
+
         least : (r : ℕ) → r < n → Neighbours w c r → label r + 1 ≡ label c → p ≤ r
         least r r_in near e =
             let (j, j_in, lies) = around w c r pos near in
-            by_cases (dec_le k j) (λ b. lies_rising w c p r k j pos b (at_Side.lies inside) lies)
+            by_cases (dec_le k j) (λ b. lies_rising w c p r k j pos b there.1 lies)
             (λ o. absurd (S.passed j r (omega arith) r_in lies (omega arith)))
 
 -- the first i path words are written, and the last of them is c
@@ -99,24 +101,8 @@ pub record Walking (w n : ℕ) (label : ℕ → ℕ) (from cells : ℕ) (path : 
   pub left : label c + i ≡ cells + 1
   pub steps : (j : ℕ) → j + 1 < i → Down w n label (at path j) (at path (j + 1))
 
-module _ {w n : ℕ} {label : ℕ → ℕ} {from cells : ℕ} where
-  -- the first cell is written
-  pub walk_begins : (path : List ℕ) → length path ≡ n → from < n → cells ≡ label from → 0 < label from
-      → Walking w n label from cells (set path 0 from) from 1
-  walk_begins path long inside is more =
-      let first : at (set path 0 from) 0 ≡ from = get_or-set_same path 0 from 0 (omega arith) in
-      record {
-        long = length-set path 0 from ∙ long;
-        some = omega arith;
-        most = omega arith;
-        inside = inside;
-        first = first;
-        here = λ j e. let z : j ≡ 0 = omega arith in rw z first;
-        left = omega arith;
-        steps = λ j h. absurd (omega arith);
-      }
-
-  module _ {path : List ℕ} {c i : ℕ} (W : Walking w n label from cells path c i) where
+module _ {w n : ℕ} {label : ℕ → ℕ} {from cells : ℕ} {path : List ℕ} {c i : ℕ} (W : Walking w n label from cells path c i)
+  where
     -- the walk goes on to q
     pub walk_goes : {q : ℕ} → cells ≤ n → i < cells → Down w n label c q
         → Walking w n label from cells (set path i q) q (i + 1)
@@ -147,8 +133,3 @@ module _ {w n : ℕ} {label : ℕ → ℕ} {from cells : ℕ} where
             let from_c : at (set path i q) j ≡ c = stay j (omega arith) ∙ W.here j last in
             let to_q : at (set path i q) (j + 1) ≡ q = ap (at (set path i q)) last ∙ new in
             subst₂ (Down w n label) (sym from_c) (sym to_q) D)
-
-    -- the walk is at its end
-    pub walk_ends : cells ≡ label from → cells ≤ i → Walked w n label from cells (at path)
-    walk_ends is all =
-        record { cells_is = is; first = W.first; steps = λ j h. W.steps j (omega (arith, W.most)) }

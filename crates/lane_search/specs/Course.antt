@@ -1,5 +1,5 @@
 -- The width, and the walk down the labels. Assumes nothing.
-use Rattle.std.specs.Prelude.{◌≡◌, ◌≢◌, Bool, true, false, List, ℕ, ◌+◌, ◌*◌, ◌≤◌, ◌<◌, take}
+use Rattle.std.specs.Prelude.{◌≡◌, Bool, true, false, List, ℕ, ◌+◌, ◌*◌, ◌≤◌, ◌<◌, take}
 use Rattle.rules.specs.Limits.{mark}
 use Rattle.rules.specs.Lane.{Neighbours, Lane, Best, width}
 use Rattle.lane_flood.specs.Labelling.{at}
@@ -19,11 +19,6 @@ pub record Between (w n : ℕ) (word : ℕ → ℕ) (from to v most : ℕ) : Typ
 pub record AsWide (w n : ℕ) (word : ℕ → ℕ) (from to v : ℕ) (answer : Bool) : Type 0 where
   pub yes : answer ≡ true → (h : ℕ) → n ≡ w * h → Wide w h word from to v
   pub no : answer ≡ false → (h : ℕ) → n ≡ w * h → (cells : List ℕ) → Lane w h from to cells → width word cells < v
-
--- whether p is a cell with the label l
-pub record Has (n : ℕ) (label : ℕ → ℕ) (l p : ℕ) (answer : Bool) : Type 0 where
-  pub yes : answer ≡ true → (p < n) × (label p ≡ l)
-  pub no : answer ≡ false → p < n → label p ≢ l
 
 -- q is the cell to go to from p: of the neighbours with the next lesser label the least
 pub record Down (w n : ℕ) (label : ℕ → ℕ) (p q : ℕ) : Type 0 where

@@ -11,17 +11,11 @@ use crate::walk::walk;
 use crate::widths::width_of;
 use lane_flood::flood;
 use rules::MARK;
+use rules::answers::Course;
 use set_words::set_all;
 
 mod walk;
 mod widths;
-
-// A lane: its width, and how many cells of it stand in the path.
-#[derive(Clone, Copy)]
-pub struct Course {
-    pub width: u32,
-    pub cells: u32,
-}
 
 // The best lane over the words of a board whose rows are w cells long. `labels` and `path` are as long as the board.
 pub fn best_lane(
@@ -32,7 +26,9 @@ pub fn best_lane(
     labels: &mut [u32],
     path: &mut [u32],
 ) -> Course
-    requires { Lists w words.now labels.old path.old × (from < length words.now) × (to < length words.now) }
+    requires lists { Lists w words.now labels.old path.old }
+    requires from_inside { from < length words.now }
+    requires to_inside { to < length words.now }
     ensures { Laid w (length words.now) (at words.now) from to result.width result.cells
         labels.new path.new }
 {

@@ -1,17 +1,10 @@
 // The width by halving: some lane is as wide as `low`, and none is wider than `high`.
-ghost use Rattle.std.specs.Prelude.{◌<◌, min, ◌≡◌, length};
+ghost use Rattle.std.specs.Prelude.{◌<◌, length};
 ghost use Rattle.lane_flood.specs.Around.{Lists};
 ghost use Rattle.lane_flood.specs.Labelling.{at};
 ghost use Rattle.lane_search.specs.Course.{AsWide, Between};
 
 use lane_flood::flood;
-
-// The lesser of two words.
-fn lesser(a: u32, b: u32) -> u32
-    ensures { result ≡ min a b }
-{
-    if a < b { a } else { b }
-}
 
 // Whether a flood from `to` over the cells of at least v reaches `from`.
 fn reaches(
@@ -23,8 +16,9 @@ fn reaches(
     labels: &mut [u32],
     queue: &mut [u32],
 ) -> bool
-    requires { Lists w words.now labels.old queue.old
-        × (from < length words.now) × (to < length words.now) }
+    requires lists { Lists w words.now labels.old queue.old }
+    requires from_inside { from < length words.now }
+    requires to_inside { to < length words.now }
     ensures { AsWide w (length words.now) (at words.now) from to v result }
 {
     flood(w, v, to, words, labels, queue);
@@ -40,12 +34,13 @@ pub fn width_of(
     labels: &mut [u32],
     queue: &mut [u32],
 ) -> u32
-    requires { Lists w words.now labels.old queue.old
-        × (from < length words.now) × (to < length words.now) }
+    requires lists { Lists w words.now labels.old queue.old }
+    requires from_inside { from < length words.now }
+    requires to_inside { to < length words.now }
     ensures { Between w (length words.now) (at words.now) from to result result }
 {
     let mut low = 0;
-    let mut high = lesser(words[from], words[to]);
+    let mut high = words[from].min(words[to]);
     while low < high {
         let middle = low + (high - low) / 2 + 1;
         if reaches(w, middle, from, to, words, labels, queue) {

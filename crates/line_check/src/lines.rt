@@ -6,84 +6,113 @@ ghost use Rattle.gauge.specs.Line.{Line};
 use crate::plain::squared;
 use rules::{LINE_LIMIT, SIDE_LIMIT};
 
-// The generator is Park and Miller's: a number is the one before times this factor ..
+// A number of the generator is the one before times this factor ..
 const FACTOR: u64 = 48_271;
 // .. modulo this prime, 2^31 - 1.
 const MODULUS: u64 = 2_147_483_647;
 // Most lines are at most this long.
 const SHORT: u64 = 48;
-// How many styles of value there are.
-const STYLES: u64 = 7;
+// The styles, of which one is drawn for each line.
+const STYLES: [Style; 7] = [
+    Style::Equal,
+    Style::Small,
+    Style::Near,
+    Style::Squares,
+    Style::High,
+    Style::Any,
+    Style::Gaps,
+];
 
-// The next number of the generator.
-fn step(seed: &mut u64) -> u64
-    ensures { result < 2 ^ 31 }
-{
-    let next = *seed % MODULUS * FACTOR % MODULUS;
-    *seed = next;
-    next
+// What the values of a line are.
+#[derive(Clone, Copy)]
+enum Style {
+    // all equal
+    Equal,
+    // small, many equal
+    Small,
+    // within the reach
+    Near,
+    // squares of such
+    Squares,
+    // close below the limit
+    High,
+    // anything up to the limit
+    Any,
+    // empty columns, which stand at the limit, among small values
+    Gaps,
 }
 
-// A random number below the bound. Two numbers of the generator together go past the line limit.
-fn draw(seed: &mut u64, bound: u64) -> u64
-    requires { 0 < bound }
-    ensures { result < bound }
-{
-    let high = step(seed);
-    let low = step(seed);
-    (high * MODULUS + low) % bound
+// The generator is Park and Miller's.
+#[derive(Drop)]
+pub struct Generator {
+    pub seed: u64,
 }
 
-// One value of a line. The reach is one number for the whole line, below its length: values within it differ about as
-// much as places do, so that many columns win somewhere.
-fn value(seed: &mut u64, style: u64, reach: u64) -> u64
-    requires { reach < side_limit }
-    ensures { result ≤ line_limit }
-{
-    match style {
-        // all equal
-        0 => reach,
-        // small, many equal
-        1 => draw(seed, 4),
-        // within the reach, and squares of such
-        2 => draw(seed, reach + 1),
-        3 => squared(draw(seed, reach + 1)),
-        // close below the limit
-        4 => LINE_LIMIT - squared(draw(seed, reach + 1)),
-        // anything up to the limit
-        5 => draw(seed, LINE_LIMIT + 1),
-        // empty columns, which stand at the limit, among small values
-        _ => {
-            if draw(seed, 2) == 0 {
-                LINE_LIMIT
-            } else {
-                draw(seed, reach + 1)
+impl Generator {
+    // Its next number.
+    fn step(&mut self) -> u64
+        ensures { result < 2 ^ 31 }
+    {
+        self.seed = self.seed % MODULUS * FACTOR % MODULUS;
+        self.seed
+    }
+
+    // A random number below the bound. Two numbers of the generator together go past the line limit.
+    fn draw(&mut self, bound: u64) -> u64
+        requires { 0 < bound }
+        ensures { result < bound }
+    {
+        let high = self.step();
+        let low = self.step();
+        (high * MODULUS + low) % bound
+    }
+
+    // One value of a line. The reach is one number for the whole line, below its length: values within it differ about as
+    // much as places do, so that many columns win somewhere.
+    fn value(&mut self, style: Style, reach: u64) -> u64
+        requires { reach < side_limit }
+        ensures { result ≤ line_limit }
+    {
+        match style {
+            Style::Equal => reach,
+            Style::Small => self.draw(4),
+            Style::Near => self.draw(reach + 1),
+            Style::Squares => squared(self.draw(reach + 1)),
+            Style::High => LINE_LIMIT - squared(self.draw(reach + 1)),
+            Style::Any => self.draw(LINE_LIMIT + 1),
+            Style::Gaps => {
+                if self.draw(2) == 0 {
+                    LINE_LIMIT
+                } else {
+                    self.draw(reach + 1)
+                }
             }
         }
     }
-}
 
-// Fills a line with values of one style.
-pub fn fill(seed: &mut u64, values: &mut [u64])
-    requires { (1 ≤ length values.old) × (length values.old ≤ side_limit) }
-    ensures { Line values.new }
-{
-    let n = values.len();
-    let style = draw(seed, STYLES);
-    let reach = draw(seed, n as u64);
-    let mut i = 0;
-    while i < n {
-        values[i] = value(seed, style, reach);
-        i += 1;
+    // Fills a line with values of one style.
+    pub fn fill(&mut self, values: &mut [u64])
+        requires from { 1 ≤ length values.old }
+        requires to { length values.old ≤ side_limit }
+        ensures { Line values.new }
+    {
+        let style = STYLES[self.draw(STYLES.len() as u64) as usize];
+        let reach = self.draw(values.len() as u64);
+        for value in values.iter_mut() {
+            *value = self.value(style, reach);
+        }
     }
-}
 
-// The length of a line: mostly short, one in forty any length up to the side.
-pub fn some_length(seed: &mut u64) -> usize
-    ensures { (1 ≤ result) × (result ≤ side_limit) }
-{
-    if draw(seed, 40) == 0 {
-        return 1 + draw(seed, SIDE_LIMIT as u64) as usize;
+    // The length of a line: mostly short, one in forty any length up to the side.
+    pub fn some_length(&mut self) -> usize
+        ensures from { 1 ≤ result }
+        ensures to { result ≤ side_limit }
+    {
+        let longest = if self.draw(40) == 0 {
+            u64::from(SIDE_LIMIT)
+        } else {
+            SHORT
+        };
+        1 + self.draw(longest) as usize
     }
-    1 + draw(seed, SHORT) as usize
 }

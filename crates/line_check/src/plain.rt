@@ -3,6 +3,8 @@ ghost use Rattle.std.specs.Prelude.{◌*◌, ◌≤◌, ◌<◌, ◌≡◌, leng
 ghost use Rattle.rules.specs.Limits.{side_limit, line_limit};
 ghost use Rattle.gauge.specs.Line.{Line};
 
+use rules::kind::LineKind;
+
 // The square of a number of columns.
 pub fn squared(d: u64) -> u64
     requires { d < side_limit }
@@ -12,53 +14,34 @@ pub fn squared(d: u64) -> u64
 }
 
 // The height of a column that holds the value v, at a place dx away: dx² + v, dx + v, or the greater of dx and v.
-fn height(kind: u32, dx: u64, v: u64) -> u64
-    requires { (dx < side_limit) × (v ≤ line_limit) }
+fn height(kind: LineKind, dx: u64, v: u64) -> u64
+    requires distance { dx < side_limit }
+    requires value { v ≤ line_limit }
 {
     match kind {
-        0 => squared(dx) + v,
-        1 => dx + v,
-        _ => if v < dx { dx } else { v },
+        LineKind::Euclid => squared(dx) + v,
+        LineKind::Manhattan => dx + v,
+        LineKind::Chessboard => dx.max(v),
     }
 }
 
-// The height of column i of the line at the place x.
-fn height_at(kind: u32, values: &[u64], i: usize, x: usize) -> u64
-    requires { Line values.now × (i < length values.now) × (x < length values.now) }
+// The least column with the least height at the place x; `None` would stand for a line of no column.
+fn lowest(kind: LineKind, values: &[u64], x: usize) -> Option<usize>
+    requires line { Line values.now }
+    requires place { x < length values.now }
 {
-    if i < x {
-        return height(kind, (x - i) as u64, values[i]);
-    }
-    height(kind, (i - x) as u64, values[i])
-}
-
-// The least column with the least height at the place x.
-fn lowest(kind: u32, values: &[u64], x: usize) -> usize
-    requires { Line values.now × (x < length values.now) }
-{
-    let mut best = 0;
-    let mut i = 1;
-    while i < values.len() {
-        if height_at(kind, values, i, x) < height_at(kind, values, best, x) {
-            best = i;
-        }
-        i += 1;
-    }
-    best
+    (0..values.len()).min_by_key(|&i| height(kind, x.abs_diff(i) as u64, values[i]))
 }
 
 // At how many places of the line the winner is not the lowest column.
-pub fn wrong_places(kind: u32, values: &[u64], winners: &[u32]) -> u64
-    requires { Line values.now × (length winners.now ≡ length values.now) }
+pub fn wrong_places(kind: LineKind, values: &[u64], winners: &[u32]) -> u64
+    requires line { Line values.now }
+    requires places { length winners.now ≡ length values.now }
     ensures { result ≤ length values.now }
 {
-    let mut wrong = 0;
-    let mut x = 0;
-    while x < values.len() {
-        if winners[x] as usize != lowest(kind, values, x) {
-            wrong += 1;
-        }
-        x += 1;
-    }
-    wrong
+    winners
+        .iter()
+        .enumerate()
+        .filter(|&(x, &winner)| lowest(kind, values, x) != Some(winner as usize))
+        .count() as u64
 }

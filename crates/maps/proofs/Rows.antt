@@ -17,13 +17,13 @@ use Rattle.rules.proofs.Board.{row_ends}
 use Rattle.rules.proofs.Columns.{row_word_same}
 use Rattle.rules.proofs.Parts.{beyond_more, beyond_both}
 use Rattle.rules.proofs.RowParts.{put_here, put_elsewhere, put_past}
-use Rattle.gauge.specs.declared.Gauge.{Gauge}
-use Rattle.gauge.specs.Line.{measured, Measuring}
+use Rattle.rules.specs.declared.kind.LineKind.{LineKind}
+use Rattle.gauge.specs.Line.{measured}
 use Rattle.rows.specs.Row.{Believed, RowMade}
 use Rattle.maps.specs.Rows.{word_of, Believable, RowsMade}
 
 -- no row yet
-pub rows_none : {g : Gauge} {w h : ℕ} (scratch d s : List ℕ) → RowsMade g w h 0 scratch scratch d d s s
+pub rows_none : {kind : LineKind} {w h : ℕ} (scratch d s : List ℕ) → RowsMade kind w h 0 scratch scratch d d s s
 rows_none scratch d s =
     record {
       rows = λ x y h l. absurd (omega arith);
@@ -33,16 +33,15 @@ rows_none scratch d s =
       sites_beyond = record { as_long = refl; untouched = refl };
     }
 
-module _ {g : Gauge} {w h : ℕ} {before d s : List ℕ} (sides : Sides w h) where
+module _ {kind : LineKind} {w h : ℕ} {before d s : List ℕ} (sides : Sides w h) where
   -- what the next row line asks
-  pub row_believed : {y : ℕ} {squares after d' s' : List ℕ} → Measuring g squares → Believable w h before
-      → w * h + w + w ≤ length before → y < h → RowsMade g w h y before after d d' s s'
-      → Believed g squares (y * w) (w * h) after w
-  row_believed {y} {after = after} measuring B room l R =
+  pub row_believed : {y : ℕ} {after d' s' : List ℕ} → Believable w h before
+      → w * h + w + w ≤ length before → y < h → RowsMade kind w h y before after d d' s s'
+      → Believed (y * w) (w * h) after w
+  row_believed {y} {after = after} B room l R =
       let same : (i : ℕ) → i < w → get_or after (y * w + i) 0 ≡ word_of w before y i =
       λ i h. R.kept (y * w + i) (omega (arith, row_ends w refl l)) in
       record {
-        measuring = measuring;
         from = sides.width_from;
         to = sides.width_to;
         before_tail = row_ends w refl l;
@@ -58,7 +57,7 @@ module _ {g : Gauge} {w h : ℕ} {before d s : List ℕ} (sides : Sides w h) whe
 
   module _ {y : ℕ} {after after' d' s' : List ℕ} (drow srow : List ℕ) (l : y < h) (d_long : w * h ≤ length d)
       (s_long : w * h ≤ length s) (drow_long : length drow ≡ w) (srow_long : length srow ≡ w)
-      (R : RowsMade g w h y before after d d' s s') (M : RowMade g y (y * w) (w * h) w after after' drow srow) where
+      (R : RowsMade kind w h y before after d d' s s') (M : RowMade kind y (y * w) (w * h) w after after' drow srow) where
     d_room : w * h ≤ length d'
     d_room = omega (arith, R.distances_beyond.as_long)
 
@@ -66,33 +65,33 @@ module _ {g : Gauge} {w h : ℕ} {before d s : List ℕ} (sides : Sides w h) whe
     s_room = omega (arith, R.sites_beyond.as_long)
 
     -- this row
-    here : (x : ℕ) → x < w → RowWord w (measured g).combine (word_of w before y)
-        (λ i. (measured g).lift (away y (word_of w before y i))) x
+    here : (x : ℕ) → x < w → RowWord w (measured kind).combine (word_of w before y)
+        (λ i. (measured kind).lift (away y (word_of w before y i))) x
         (get_or (put_mid (y * w) (y * w + w - y * w) d' drow) (cell w x y) 0)
         (get_or (put_mid (y * w) (y * w + w - y * w) s' srow) (cell w x y) 0)
     here x in_row =
-        subst₂ (λ a b. RowWord w (measured g).combine (word_of w before y)
-        (λ i. (measured g).lift (away y (word_of w before y i))) x a b)
+        subst₂ (λ a b. RowWord w (measured kind).combine (word_of w before y)
+        (λ i. (measured kind).lift (away y (word_of w before y i))) x a b)
         (sym (put_here d' drow refl l d_room drow_long in_row)) (sym (put_here s' srow refl l s_room srow_long in_row))
-        (row_word_same same (λ i b n. ap (λ word. (measured g).lift (away y word)) (same i b)) (M.row x in_row))
+        (row_word_same same (λ i b n. ap (λ word. (measured kind).lift (away y word)) (same i b)) (M.row x in_row))
       where
         same : (i : ℕ) → i < w → get_or after (y * w + i) 0 ≡ word_of w before y i
         same i b = R.kept (y * w + i) (omega (arith, row_ends w refl l))
 
     -- an earlier row
-    earlier : (x y' : ℕ) → x < w → y' < y → RowWord w (measured g).combine (word_of w before y')
-        (λ i. (measured g).lift (away y' (word_of w before y' i))) x
+    earlier : (x y' : ℕ) → x < w → y' < y → RowWord w (measured kind).combine (word_of w before y')
+        (λ i. (measured kind).lift (away y' (word_of w before y' i))) x
         (get_or (put_mid (y * w) (y * w + w - y * w) d' drow) (cell w x y') 0)
         (get_or (put_mid (y * w) (y * w + w - y * w) s' srow) (cell w x y') 0)
     earlier x y' in_row b =
         let other : y' ≢ y = omega arith in
-        subst₂ (λ a b. RowWord w (measured g).combine (word_of w before y')
-        (λ i. (measured g).lift (away y' (word_of w before y' i))) x a b)
+        subst₂ (λ a b. RowWord w (measured kind).combine (word_of w before y')
+        (λ i. (measured kind).lift (away y' (word_of w before y' i))) x a b)
         (sym (put_elsewhere d' drow refl l d_room drow_long in_row other))
         (sym (put_elsewhere s' srow refl l s_room srow_long in_row other)) (R.rows x y' in_row b)
 
     -- one row more
-    pub rows_more : RowsMade g w h (y + 1) before after' d (put_mid (y * w) (y * w + w - y * w) d' drow) s
+    pub rows_more : RowsMade kind w h (y + 1) before after' d (put_mid (y * w) (y * w + w - y * w) d' drow) s
         (put_mid (y * w) (y * w + w - y * w) s' srow)
     rows_more =
         record {
@@ -100,8 +99,8 @@ module _ {g : Gauge} {w h : ℕ} {before d s : List ℕ} (sides : Sides w h) whe
               λ x y' in_row k.
               let at_most : y' ≤ y = omega arith in
               ⊎_elim
-              (λ e. subst (λ n. RowWord w (measured g).combine (word_of w before n)
-              (λ i. (measured g).lift (away n (word_of w before n i))) x
+              (λ e. subst (λ n. RowWord w (measured kind).combine (word_of w before n)
+              (λ i. (measured kind).lift (away n (word_of w before n i))) x
               (get_or (put_mid (y * w) (y * w + w - y * w) d' drow) (cell w x n) 0)
               (get_or (put_mid (y * w) (y * w + w - y * w) s' srow) (cell w x n) 0)) (sym e) (here x in_row))
               (λ b. earlier x y' in_row b) (eq-or-lt_of_le at_most);
@@ -119,17 +118,17 @@ module _ {g : Gauge} {w h : ℕ} {before d s : List ℕ} (sides : Sides w h) whe
         next = omega arith
 
   -- the same with the row's first cell by another name, as the loop has it
-  pub believed_at : {y : ℕ} {squares after d' s' : List ℕ} (at : ℕ) → at ≡ y * w → Measuring g squares
-      → Believable w h before → w * h + w + w ≤ length before → y < h → RowsMade g w h y before after d d' s s'
-      → Believed g squares at (w * h) after w
-  believed_at {y} {squares} {after} at e measuring B room l R =
-      subst (λ k. Believed g squares k (w * h) after w) (sym e) (row_believed measuring B room l R)
+  pub believed_at : {y : ℕ} {after d' s' : List ℕ} (at : ℕ) → at ≡ y * w
+      → Believable w h before → w * h + w + w ≤ length before → y < h → RowsMade kind w h y before after d d' s s'
+      → Believed at (w * h) after w
+  believed_at {y} {after} at e B room l R =
+      subst (λ k. Believed k (w * h) after w) (sym e) (row_believed B room l R)
 
   pub rows_more_at : {y : ℕ} {after after' d' s' : List ℕ} (at : ℕ) (drow srow : List ℕ) → at ≡ y * w → y < h
       → w * h ≤ length d → w * h ≤ length s → length drow ≡ w → length srow ≡ w
-      → RowsMade g w h y before after d d' s s' → RowMade g y at (w * h) w after after' drow srow
-      → RowsMade g w h (y + 1) before after' d (put_mid at (at + w - at) d' drow) s (put_mid at (at + w - at) s' srow)
+      → RowsMade kind w h y before after d d' s s' → RowMade kind y at (w * h) w after after' drow srow
+      → RowsMade kind w h (y + 1) before after' d (put_mid at (at + w - at) d' drow) s (put_mid at (at + w - at) s' srow)
   rows_more_at {y} {after} {after'} {d'} {s'} at drow srow e l d_long s_long drow_long srow_long R =
-      subst (λ k. RowMade g y k (w * h) w after after' drow srow
-      → RowsMade g w h (y + 1) before after' d (put_mid k (k + w - k) d' drow) s (put_mid k (k + w - k) s' srow)) (sym e)
+      subst (λ k. RowMade kind y k (w * h) w after after' drow srow
+      → RowsMade kind w h (y + 1) before after' d (put_mid k (k + w - k) d' drow) s (put_mid k (k + w - k) s' srow)) (sym e)
       (rows_more drow srow l d_long s_long drow_long srow_long R)

@@ -5,7 +5,7 @@ use Rattle.rules.specs.Limits.{mark}
 use Rattle.rules.specs.Board.{cell, away}
 use Rattle.rules.specs.Columns.{RowWord}
 use Rattle.rules.specs.Calls.{Beyond}
-use Rattle.gauge.specs.declared.Gauge.{Gauge}
+use Rattle.rules.specs.declared.kind.LineKind.{LineKind}
 use Rattle.gauge.specs.Line.{measured}
 
 -- the word of column i in row y
@@ -20,9 +20,9 @@ pub record Believable (w h : ℕ) (scratch : List ℕ) : Type 0 where
   pub i₀_named : (y : ℕ) → y < h → word_of w scratch y i₀ ≢ mark
 
 -- what the row lines of the rows below y leave
-pub record RowsMade (g : Gauge) (w h y : ℕ) (before after d d' s s' : List ℕ) : Type 0 where
-  pub rows : (x y' : ℕ) → x < w → y' < y → RowWord w (measured g).combine (word_of w before y')
-      (λ i. (measured g).lift (away y' (word_of w before y' i))) x (get_or d' (cell w x y') 0) (get_or s' (cell w x y') 0)
+pub record RowsMade (kind : LineKind) (w h y : ℕ) (before after d d' s s' : List ℕ) : Type 0 where
+  pub rows : (x y' : ℕ) → x < w → y' < y → RowWord w (measured kind).combine (word_of w before y')
+      (λ i. (measured kind).lift (away y' (word_of w before y' i))) x (get_or d' (cell w x y') 0) (get_or s' (cell w x y') 0)
   pub kept : (k : ℕ) → k < w * h → get_or after k 0 ≡ get_or before k 0
   pub scratch_beyond : Beyond (w * h + w + w) before after
   pub distances_beyond : Beyond (y * w) d d'

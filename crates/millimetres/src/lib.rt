@@ -1,45 +1,41 @@
 // Millimetres on the screen: a squared distance from centre to centre, as a number and as a text.
 #![tactic(auto)]
 
-ghost use Rattle.std.specs.Prelude.{◌≤◌};
-ghost use Rattle.rules.specs.Limits.{knob_limit};
-ghost use Rattle.rules.specs.Answers.{figure_number, figure_out, text_number, text_count};
-ghost use Rattle.rules.specs.Millimetres.{Root, centre_under, FigureCall, TextCall};
+ghost use Rattle.std.specs.Prelude.{◌≡◌, true, IfOk, IfErr, OnErr};
+ghost use Rattle.rules.specs.Answers.{number_of, figure_out, text_count};
+ghost use Rattle.rules.specs.Refusals.{bad_pitch};
+ghost use Rattle.rules.specs.Millimetres.{word_32, Root, Told, centre_under, FigureCall, TextCall};
 
 use figure::figure;
 use figure_text::write;
-use knob::{Value, open_value};
+use knob::open_value;
 use root::root;
-use rules::{FigureAnswer, TextAnswer};
+use rules::refusal::Refusal;
 
-// "N the greatest whole number such that N² ≤ 16·d·a²": the distance in whole 1/256 mm, rounded down.
-fn centre_root(d: u32, a: u32) -> u32
-    requires { a ≤ knob_limit }
-    ensures { Root (centre_under d a) result }
+// "N the greatest whole number such that N² ≤ 16·d·a²": the distance in whole 1/256 mm, rounded down. Or its refusal: 8.
+fn centre_root(d: u32, pitch: f32) -> Result<u32, Refusal>
+    ensures root { IfOk result (λ n. Told pitch (centre_under d) (λ x. Root x n)) }
+    ensures row { IfErr result (λ refusal. refusal ≡ Refusal.Setting) }
+    ensures bad { OnErr result (bad_pitch (word_32 pitch) ≡ true) }
 {
-    let wide = a as u64;
-    root(16 * d as u64 * (wide * wide))
+    let a = u64::from(open_value(pitch).ok_or(Refusal::Setting)?);
+    Ok(root(16 * u64::from(d) * (a * a)))
 }
 
 // The distance as an f64, or its refusal: 8.
-pub fn centre_figure(d: u32, pitch: f32) -> FigureAnswer
-    ensures { FigureCall d pitch (figure_number result) (figure_out result) }
+pub fn centre_figure(d: u32, pitch: f32) -> Result<f64, Refusal>
+    ensures { FigureCall d pitch (number_of result) (figure_out result) }
 {
-    let Value::Whole(a) = open_value(pitch) else {
-        return FigureAnswer::Refused;
-    };
-    FigureAnswer::Millimetres(figure(centre_root(d, a)))
+    Ok(figure(centre_root(d, pitch)?))
 }
 
 // The distance as a text at the beginning of a buffer, and its length, or its refusal: 4, then 8.
-pub fn centre_text(d: u32, pitch: f32, text: &mut [u8]) -> TextAnswer
-    ensures { TextCall d pitch text.old (text_number result) (text_count result) text.new }
+#[tactic(auto, unfolding(rules::specs::Refusals::short_text))]
+pub fn centre_text(d: u32, pitch: f32, text: &mut [u8]) -> Result<u32, Refusal>
+    ensures { TextCall d pitch text.old (number_of result) (text_count result) text.new }
 {
     if text.len() < rules::TEXT_BYTES {
-        return TextAnswer::Refused(4);
+        return Err(Refusal::Buffers);
     }
-    let Value::Whole(a) = open_value(pitch) else {
-        return TextAnswer::Refused(8);
-    };
-    TextAnswer::Written(write(centre_root(d, a), text))
+    Ok(write(centre_root(d, pitch)?, text))
 }

@@ -1,6 +1,5 @@
--- What a call leaves in the words that its values go to, the answers by their cases, and that each C function which
--- answers through pointers leaves one value there. Assumes nothing.
-use mathlib.Core.Path.{◌≡◌, refl, sym, ◌∙◌, subst}
+-- Each C function which answers through pointers leaves one value there. Assumes nothing.
+use mathlib.Core.Path.{◌≡◌, sym, ◌∙◌}
 use mathlib.Core.Logic.{by_cases}
 use Prim.Native.Nat.{ℕ}
 use native.Mathlib.Decide.{ℕ_discrete}
@@ -9,66 +8,12 @@ use mathlib.Core.List.{List}
 use lib.IntN.{ℤ}
 use lib.Ieee.{Float, binary64, fits}
 use Rattle.rules.specs.declared.Setting.{Setting}
-use Rattle.rules.specs.declared.LaneAnswer.{LaneAnswer}
-use Rattle.rules.specs.declared.SliceAnswer.{SliceAnswer}
-use Rattle.rules.specs.declared.FigureAnswer.{FigureAnswer}
-use Rattle.rules.specs.declared.TextAnswer.{TextAnswer}
-use Rattle.rules.specs.Answers.{lane_number, lane_width, lane_cells}
-use Rattle.rules.specs.Answers.{figure_number, figure_out, text_number, text_count}
-use Rattle.rules.specs.Answers.{slice_start, slice_number, slice_finished, slice_next}
-use Rattle.rules.specs.Calls.{Buffers, LaneAfter, ChangeoverCall, OpeningCall, LaneCall}
-use Rattle.rules.specs.Slices.{SliceCall}
-use Rattle.rules.specs.Millimetres.{Spelled, Told, FigureOf, TextOf}
+use Rattle.rules.specs.Calls.{Buffers, ChangeoverCall, OpeningCall, LaneCall}
+use Rattle.rules.specs.Millimetres.{FigureOf, TextOf}
 use Rattle.rules.proofs.FloatWord.{one_value}
-use Rattle.rules.proofs.Pinned.{cells_not_zero, changeover_pinned, opening_pinned, lane_pinned}
-use Rattle.rules.proofs.Pinned.{text_not_empty, figure_pinned, text_pinned}
+use Rattle.rules.proofs.Pinned.{changeover_pinned, opening_pinned, lane_pinned, figure_pinned, text_pinned}
 use Rattle.rules.proofs.Slices.{slice_pinned}
 use Rattle.olavinthu.specs.Out.{Out, SliceTold}
-
--- a word that is as it was
-pub same : {A : Type 0} (number : ℕ) (x : A) → Out number x x
-same number x = record { kept = λ n. refl }
-
--- a word of an accepted call
-pub told : {A : Type 0} (x y : A) → Out 0 x y
-told x y = record { kept = λ n. absurd (n refl) }
-
--- no accepted lane has no cells
-pub no_lane : {w h : ℕ} {picture : List ℕ} {from to : ℕ} {before after : Buffers} {path path' : List ℕ} {number broad : ℕ}
-    → number ≡ 0 → LaneAfter w h picture from to before path broad 0 after path' → ⊥
-no_lane _ left = cells_not_zero left
-
--- what is said of a lane's answer is said of the case that it is
-pub lane_as : {w h : ℕ} {picture : List ℕ} {from to : ℕ} {before after : Buffers} {path path' : List ℕ} {r case : LaneAnswer}
-    → r ≡ case → LaneCall w h picture from to before path (lane_number r) (lane_width r) (lane_cells r) after path'
-    → LaneCall w h picture from to before path (lane_number case) (lane_width case) (lane_cells case) after path'
-lane_as {w} {h} {picture} {from} {to} {before} {after} {path} {path'} e c =
-    subst (λ r. LaneCall w h picture from to before path (lane_number r) (lane_width r) (lane_cells r) after path') e c
-
--- what is said of a slice's answer is said of the case that it is
-pub slice_as : {w h kind line budget : ℕ} {picture : List ℕ} {before after : Buffers} {r case : SliceAnswer} → r ≡ case
-    → SliceCall w h kind line budget picture before (slice_start r) (slice_number r) (slice_finished r) (slice_next r) after
-    → SliceCall w h kind line budget picture before (slice_start case) (slice_number case) (slice_finished case)
-    (slice_next case) after
-slice_as {w} {h} {kind} {line} {budget} {picture} {before} {after} e c =
-    subst (λ r. SliceCall w h kind line budget picture before (slice_start r) (slice_number r) (slice_finished r)
-    (slice_next r) after) e c
-
--- no accepted text has no bytes
-pub no_text : {pitch : Float} {under : ℕ → ℕ} {before after : List ℕ} {number : ℕ}
-    → number ≡ 0 → Told pitch under (λ x. Spelled x before after 0) → ⊥
-no_text _ t = text_not_empty t
-
--- what is said of a figure's or a text's answer is said of the case that it is
-pub figure_as : {under : ℕ → ℕ} {pitch : Float} {r case : FigureAnswer} → r ≡ case
-    → FigureOf under pitch (figure_number r) (figure_out r) → FigureOf under pitch (figure_number case) (figure_out case)
-figure_as {under} {pitch} e c = subst (λ r. FigureOf under pitch (figure_number r) (figure_out r)) e c
-
-pub text_as : {under : ℕ → ℕ} {pitch : Float} {before after : List ℕ} {r case : TextAnswer} → r ≡ case
-    → TextOf under pitch before (text_number r) (text_count r) after
-    → TextOf under pitch before (text_number case) (text_count case) after
-text_as {under} {pitch} {before} {after} e c =
-    subst (λ r. TextOf under pitch before (text_number r) (text_count r) after) e c
 
 -- what a call leaves in an out-word is one value: the entry's call has one where the number is 0, and else it is as it was
 out_pinned : {A : Type 0} {n n' : ℕ} {before after after' : A} → n ≡ n' → (n ≡ 0 → after ≡ after')

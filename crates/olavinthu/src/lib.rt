@@ -1,8 +1,11 @@
 // The C functions of the static library. Each passes on to the entry that it wraps and has the same promise, by the same
-// call of the rules; where the entry answers an enum, the C function answers its number and writes its values, and a
-// refusal writes nothing (a slice's stop is none: it writes its values). `include/olavinthu.h` declares them.
+// call of the rules; the C function answers the number of the entry's answer and writes its values, and a refusal writes
+// nothing (a slice's stop is none: it writes its values). Kinds and refusals are numbers here and buffers stand apart, as C
+// has them. `include/olavinthu.h` declares them.
 #![tactic(auto)]
 
+ghost use Rattle.std.specs.Prelude.{◌≡◌};
+ghost use Rattle.rules.specs.Answers.{number_of};
 ghost use Rattle.rules.specs.Calls.{buffers, PictureCall, CostCall, LaneCall, ChangeoverCall, OpeningCall, ClearCall};
 ghost use Rattle.rules.specs.Millimetres.{FigureCall, TextCall};
 ghost use Rattle.olavinthu.specs.Out.{Out, SliceTold};
@@ -13,10 +16,19 @@ use knob::{clear_map, open};
 use lane::widest;
 use maps::picture_map;
 use millimetres::{centre_figure, centre_text};
-use rules::{
-    ChangeoverAnswer, FigureAnswer, LaneAnswer, OpeningAnswer, Setting, SliceAnswer, TextAnswer,
-};
+use rules::Setting;
+use rules::refusal::Refusal;
 use slices::slice;
+
+// The number of an answer that has no values: 0, or the refusal's.
+fn number_of(answer: Result<(), Refusal>) -> u32
+    ensures { result ≡ number_of answer }
+{
+    match answer {
+        Ok(()) => 0,
+        Err(refusal) => u32::from(refusal),
+    }
+}
 
 // The map of a picture.
 #[unsafe(no_mangle)]
@@ -35,7 +47,7 @@ pub extern "C" fn olv_map(
         (buffers distances.old sites.old scratch.old)
         result (buffers distances.new sites.new scratch.new) }
 {
-    picture_map(w, h, kind, d1, d2, picture, distances, sites, scratch)
+    number_of(picture_map(w, h, kind, d1, d2, picture, distances, sites, scratch))
 }
 
 // The map of a cost picture.
@@ -53,7 +65,7 @@ pub extern "C" fn olv_cost_map(
         (buffers distances.old sites.old scratch.old)
         result (buffers distances.new sites.new scratch.new) }
 {
-    cost_map(w, h, kind, costs, distances, sites, scratch)
+    number_of(cost_map(w, h, kind, costs, distances, sites, scratch))
 }
 
 // The widest lane: its number, and its width and how many cells it has where that is 0.
@@ -78,15 +90,12 @@ pub extern "C" fn olv_lane(
         × Out result width.old width.new × Out result cells.old cells.new }
 {
     match widest(w, h, picture, from, to, distances, sites, scratch, path) {
-        LaneAnswer::Refused(number) => number,
-        LaneAnswer::Found {
-            width: broad,
-            cells: count,
-        } => {
-            *width = broad;
-            *cells = count;
+        Ok(course) => {
+            *width = course.width;
+            *cells = course.cells;
             0
         }
+        Err(refusal) => u32::from(refusal), // width and cells stay
     }
 }
 
@@ -95,12 +104,13 @@ pub extern "C" fn olv_lane(
 pub extern "C" fn olv_changeover(i: u32, u: u32, a: u32, b: u32, p: &mut i32) -> u32
     ensures { ChangeoverCall i u a b result p.new × Out result p.old p.new }
 {
-    let answer = changeover(i, u, a, b);
-    let ChangeoverAnswer::At(found) = answer else {
-        return 9;
-    };
-    *p = found;
-    0
+    match changeover(i, u, a, b) {
+        Ok(found) => {
+            *p = found;
+            0
+        }
+        Err(refusal) => u32::from(refusal), // p stays
+    }
 }
 
 // The opening of a setting: its number, and a and b where it is 0.
@@ -110,15 +120,11 @@ pub extern "C" fn olv_open(setting: Setting, a: &mut u32, b: &mut u32) -> u32
         × Out result b.old b.new }
 {
     let answer = open(setting);
-    let OpeningAnswer::Whole {
-        a: pitch,
-        b: radius,
-    } = answer
-    else {
-        return 8;
+    let Ok(opening) = answer else {
+        return u32::from(Refusal::Setting);
     };
-    *a = pitch;
-    *b = radius;
+    *a = opening.a;
+    *b = opening.b;
     0
 }
 
@@ -127,7 +133,7 @@ pub extern "C" fn olv_open(setting: Setting, a: &mut u32, b: &mut u32) -> u32
 pub extern "C" fn olv_clear(setting: Setting, squares: &[u32], clear: &mut [u8]) -> u32
     ensures { ClearCall setting squares.now clear.old result clear.new }
 {
-    clear_map(setting, squares, clear)
+    number_of(clear_map(setting, squares, clear))
 }
 
 // A squared distance from centre to centre in millimetres: its number, and the figure where it is 0.
@@ -135,12 +141,13 @@ pub extern "C" fn olv_clear(setting: Setting, squares: &[u32], clear: &mut [u8])
 pub extern "C" fn olv_millimetres(d: u32, pitch: f32, out: &mut f64) -> u32
     ensures { FigureCall d pitch result out.new × Out result out.old out.new }
 {
-    let answer = centre_figure(d, pitch);
-    let FigureAnswer::Millimetres(figure) = answer else {
-        return 8;
-    };
-    *out = figure;
-    0
+    match centre_figure(d, pitch) {
+        Ok(figure) => {
+            *out = figure;
+            0
+        }
+        Err(refusal) => u32::from(refusal), // out stays
+    }
 }
 
 // The same as a text: its number, and the text's length where it is 0.
@@ -150,11 +157,11 @@ pub extern "C" fn olv_millimetres_text(d: u32, pitch: f32, text: &mut [u8], leng
         × Out result length.old length.new }
 {
     match centre_text(d, pitch, text) {
-        TextAnswer::Refused(number) => number,
-        TextAnswer::Written(count) => {
+        Ok(count) => {
             *length = count;
             0
         }
+        Err(refusal) => u32::from(refusal), // length stays
     }
 }
 
@@ -180,15 +187,11 @@ pub extern "C" fn olv_slice(
         (buffers distances.new sites.new scratch.new) }
 {
     match slice(w, h, kind, line, budget, picture, distances, sites, scratch) {
-        SliceAnswer::Refused(refused) => refused,
-        SliceAnswer::Worked {
-            number,
-            finished: lines,
-            next: after,
-        } => {
-            *finished = lines;
-            *next = after;
-            number
+        Ok(done) => {
+            *finished = done.finished;
+            *next = done.next;
+            done.stop.map_or(0, u32::from)
         }
+        Err(refusal) => u32::from(refusal), // finished and next stay
     }
 }

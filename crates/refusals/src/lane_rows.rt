@@ -1,6 +1,10 @@
 // The rows of the lane entry.
-ghost use Rattle.std.specs.Prelude.{◌≡◌};
+ghost use Rattle.std.specs.Prelude.{◌≡◌, IfOk};
+ghost use Rattle.rules.specs.Answers.{number_of};
 ghost use Rattle.rules.specs.Refusals.{answer, lane_rows};
+
+use rules::refusal::Refusal;
+use rules::sized::Board;
 
 // What a lane call asks: the board's sides, and the cells that the lane joins.
 #[derive(Clone, Copy)]
@@ -11,7 +15,7 @@ pub struct LaneAsked {
     pub to: u32,
 }
 
-// The number of the first row of the table that holds of a lane call, 0 for none. The buffers go by their lengths.
+// The board of a lane call, or the first row of the table that holds of it. The buffers go by their lengths.
 #[tactic(auto, unfolding(rules::specs::Refusals::bad_sides, rules::specs::Refusals::bad_path, rules::specs::Refusals::bad_ends))]
 pub fn lane_refusal(
     a: LaneAsked,
@@ -20,32 +24,25 @@ pub fn lane_refusal(
     sites: usize,
     scratch: usize,
     path: usize,
-) -> u32
-    ensures { result ≡ answer (lane_rows a.w a.h picture.now a.from a.to distances sites scratch path) }
+) -> Result<Board, Refusal>
+    ensures number { number_of result ≡ answer (lane_rows a.w a.h picture.now a.from a.to distances sites scratch path) }
+    ensures board { IfOk result (λ board. (board.w ≡ a.w) × (board.h ≡ a.h)) }
 {
-    if board_tests::bad_sides(a.w, a.h) {
-        return 1;
-    }
-    let across = a.w as usize;
-    let down = a.h as usize;
-    let cells = across * down;
-    if board_tests::bad_buffers(across, down, picture.len(), distances, sites, scratch) {
-        return 4;
-    }
-    if path < cells {
-        return 4;
+    let board = board_tests::board_of(a.w, a.h)?;
+    let cells = board.cells();
+    if board_tests::bad_buffers(board.w, board.h, picture.len(), distances, sites, scratch)
+        || path < cells
+    {
+        return Err(Refusal::Buffers);
     }
     if board_tests::bad_bytes(picture) {
-        return 5;
+        return Err(Refusal::Cell);
     }
     if board_tests::no_bore(picture) {
-        return 6;
+        return Err(Refusal::NoBore);
     }
-    if cells <= a.from as usize {
-        return 7;
+    if cells <= a.from as usize || cells <= a.to as usize {
+        return Err(Refusal::Ends);
     }
-    if cells <= a.to as usize {
-        return 7;
-    }
-    0
+    Ok(board)
 }

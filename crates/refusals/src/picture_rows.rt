@@ -1,10 +1,14 @@
 // The rows of the picture entry.
-ghost use Rattle.std.specs.Prelude.{◌≡◌};
+ghost use Rattle.std.specs.Prelude.{◌≡◌, IfOk};
+ghost use Rattle.rules.specs.Answers.{number_of};
 ghost use Rattle.rules.specs.Refusals.{answer, picture_rows};
 
 use rules::KIND_LIMIT;
+use rules::refusal::Refusal;
+use rules::sized::Board;
 
-// What a picture call asks: the board's sides, the kind, and the weights, which only kind 3 reads.
+// What a picture call asks: the board's sides, the kind, and the weights, which only kind 3 reads. The kind is a number,
+// since the entry promises an answer to every number (`PictureCall`).
 #[derive(Clone, Copy)]
 pub struct PictureAsked {
     pub w: u32,
@@ -14,7 +18,7 @@ pub struct PictureAsked {
     pub d2: u32,
 }
 
-// The number of the first row of the table that holds of a picture call, 0 for none. The buffers go by their lengths.
+// The board of a picture call, or the first row of the table that holds of it. The buffers go by their lengths.
 #[tactic(auto, unfolding(rules::specs::Refusals::bad_sides, rules::specs::Refusals::bad_kind))]
 pub fn picture_refusal(
     a: PictureAsked,
@@ -22,29 +26,26 @@ pub fn picture_refusal(
     distances: usize,
     sites: usize,
     scratch: usize,
-) -> u32
-    ensures { result ≡ answer (picture_rows a.w a.h a.kind a.d1 a.d2 picture.now
+) -> Result<Board, Refusal>
+    ensures number { number_of result ≡ answer (picture_rows a.w a.h a.kind a.d1 a.d2 picture.now
         distances sites scratch) }
+    ensures board { IfOk result (λ board. (board.w ≡ a.w) × (board.h ≡ a.h)) }
 {
-    if board_tests::bad_sides(a.w, a.h) {
-        return 1;
-    }
+    let board = board_tests::board_of(a.w, a.h)?;
     if KIND_LIMIT < a.kind {
-        return 2;
+        return Err(Refusal::Kind);
     }
     if board_tests::bad_weights(a.kind, a.d1, a.d2) {
-        return 3;
+        return Err(Refusal::Weights);
     }
-    let w = a.w as usize;
-    let h = a.h as usize;
-    if board_tests::bad_buffers(w, h, picture.len(), distances, sites, scratch) {
-        return 4;
+    if board_tests::bad_buffers(board.w, board.h, picture.len(), distances, sites, scratch) {
+        return Err(Refusal::Buffers);
     }
     if board_tests::bad_bytes(picture) {
-        return 5;
+        return Err(Refusal::Cell);
     }
     if board_tests::no_bore(picture) {
-        return 6;
+        return Err(Refusal::NoBore);
     }
-    0
+    Ok(board)
 }

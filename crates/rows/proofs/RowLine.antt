@@ -15,20 +15,21 @@ use lib.Seq.{ext_get_or}
 use Rattle.rules.specs.Limits.{side_limit, mark, line_limit, lift_limit}
 use Rattle.rules.specs.Board.{cell, away}
 use Rattle.rules.specs.Measures.{measure}
-use Rattle.rules.proofs.Measures.{lawful}
+use Rattle.rules.proofs.Measures.{lawful, has_parts}
 use Rattle.rules.proofs.Columns.{row_word_same}
 use Rattle.rules.proofs.Parts.{part_length, part_at, put_before}
-use Rattle.gauge.specs.declared.Gauge.{Gauge}
-use Rattle.gauge.specs.Line.{measured, Gauged, Wins, height_at}
+use Rattle.rules.specs.Answers.{kind_number}
+use Rattle.rules.specs.declared.kind.LineKind.{LineKind}
+use Rattle.gauge.specs.Line.{measured, Line, Wins, height_at}
 use Rattle.gauge.proofs.Places.{apart_below}
 use Rattle.rows.specs.Row.{Named, value_of, Filled, Winners, Heights, Chosen, Sites, Believed, LineRead, TailUsed, LineOut, RowMade}
 
 -- the value of a marked column, and of one that names a row
-pub marked_value : (g : Gauge) (y : ℕ) {word : ℕ} → word ≡ mark → value_of g y word ≡ line_limit
-marked_value g y {word} e = rw (eq-eqb word mark e)
+pub marked_value : (kind : LineKind) (y : ℕ) {word : ℕ} → word ≡ mark → value_of kind y word ≡ line_limit
+marked_value kind y {word} e = rw (eq-eqb word mark e)
 
-pub named_value : (g : Gauge) (y : ℕ) {word : ℕ} → word ≢ mark → value_of g y word ≡ (measured g).lift (away y word)
-named_value g y {word} n = rw (ne_eqb word mark n)
+pub named_value : (kind : LineKind) (y : ℕ) {word : ℕ} → word ≢ mark → value_of kind y word ≡ (measured kind).lift (away y word)
+named_value kind y {word} n = rw (ne_eqb word mark n)
 
 -- a word that is not the mark names a row
 row_named : {h word : ℕ} → Named h word → word ≢ mark → word < h
@@ -55,7 +56,7 @@ combine_small (suc (suc k)) v h = omega arith
 abbrev pub words_part : ℕ → ℕ → List ℕ → List ℕ
 words_part at w scratch = take (at + w - at) (drop at scratch)
 
-module _ {g : Gauge} {at tail w : ℕ} {squares scratch : List ℕ} (B : Believed g squares at tail scratch w) where
+module _ {at tail w : ℕ} {scratch : List ℕ} (B : Believed at tail scratch w) where
   pub words_length : length (words_part at w scratch) ≡ w
   words_length = part_length {e = at + w} scratch (omega arith) (omega (arith, B.before_tail, B.room)) ∙ omega arith
 
@@ -97,50 +98,47 @@ module _ {g : Gauge} {at tail w : ℕ} {squares scratch : List ℕ} (B : Believe
         };
       }
 
-module _ {g : Gauge} {at tail : ℕ} {squares scratch values : List ℕ} (L : LineRead g squares at tail scratch values) where
-  -- the values are a line
-  pub gauged : Gauged g squares values
-  gauged =
-      record {
-        measuring = L.believed.measuring;
-        line = record {
-          from = L.believed.from;
-          to = L.believed.to;
-          values_to =
-              λ i h.
-              by_cases (ℕ_discrete (get_or scratch (at + i) 0) mark) (λ e. omega (arith, L.marked i h e))
-              (λ n. omega (arith, L.small i h n));
-        };
-      }
+-- the values of a line that can be read are a line
+pub a_line : {at tail : ℕ} {scratch values : List ℕ} → LineRead at tail scratch values → Line values
+a_line {at} {scratch = scratch} L =
+    record {
+      from = L.believed.from;
+      to = L.believed.to;
+      values_to =
+          λ i h.
+          by_cases (ℕ_discrete (get_or scratch (at + i) 0) mark) (λ e. omega (arith, L.marked i h e))
+          (λ n. omega (arith, L.small i h n));
+    }
 
+module _ (kind : LineKind) {at tail : ℕ} {scratch values : List ℕ} (L : LineRead at tail scratch values) where
   -- the height of a column that names a row is below that of every marked one, and a u32 word
   true_height : (i x : ℕ) → i < length values → x < length values → get_or scratch (at + i) 0 ≢ mark
-      → (height_at g values i x < line_limit) × (height_at g values i x < 2 ^ 32)
+      → (height_at kind values i x < line_limit) × (height_at kind values i x < 2 ^ 32)
   unfolding height_at
   true_height i x h l n =
       let near : away x i < side_limit = lt_of_le_of_lt (apart_below x i) (omega (arith, L.believed.to)) in
-      let s = combine_small g.kind (get_or values i 0) {dx = away x i} near in
+      let s = combine_small (kind_number kind) (get_or values i 0) {dx = away x i} near in
       let v = L.small i h n in
       (omega arith, omega arith)
 
-  marked_height : (i x : ℕ) → i < length values → get_or scratch (at + i) 0 ≡ mark → line_limit ≤ height_at g values i x
+  marked_height : (i x : ℕ) → i < length values → get_or scratch (at + i) 0 ≡ mark → line_limit ≤ height_at kind values i x
   unfolding height_at
   marked_height i x h e =
-      subst (λ b. b ≤ height_at g values i x) (L.marked i h e)
-      ((lawful g.kind L.believed.measuring.parts).stands (away x i) (get_or values i 0))
+      subst (λ b. b ≤ height_at kind values i x) (L.marked i h e)
+      ((lawful (kind_number kind) (has_parts kind)).stands (away x i) (get_or values i 0))
 
   -- no marked column wins
-  winner_named : {x i : ℕ} → x < length values → Wins (height_at g values) (length values) x i
+  winner_named : {x i : ℕ} → x < length values → Wins (height_at kind values) (length values) x i
       → get_or scratch (at + i) 0 ≢ mark
   winner_named {x} {i} l w e =
       let B = L.believed in
-      let low : height_at g values i x ≤ height_at g values B.i₀ x = w.lowest B.i₀ B.i₀_in in
+      let low : height_at kind values i x ≤ height_at kind values B.i₀ x = w.lowest B.i₀ B.i₀_in in
       omega (arith, marked_height i x w.column_in e, true_height B.i₀ x B.i₀_in l B.i₀_named)
 
   module _ {winners : List ℕ}
-      (W : (x : ℕ) → x < length values → Wins (height_at g values) (length values) x (get_or winners x 0)) where
+      (W : (x : ℕ) → x < length values → Wins (height_at kind values) (length values) x (get_or winners x 0)) where
     -- what the map words ask of the winners
-    pub winners_fit : Winners g values winners
+    pub winners_fit : Winners kind values winners
     winners_fit =
         record {
           column_in = λ x h. (W x h).column_in;
@@ -162,11 +160,11 @@ module _ {g : Gauge} {at tail : ℕ} {squares scratch values : List ℕ} (L : Li
         }
 
     -- what is written is the row's map
-    pub line_out : {distances sites : List ℕ} (part : List ℕ) → Heights g values winners distances
+    pub line_out : {distances sites : List ℕ} (part : List ℕ) → Heights kind values winners distances
         → Sites (words_part at (length values) scratch) winners sites
         → length part ≡ length (take (tail + length values + length values - tail) (drop tail scratch))
         → let k = tail + length values + length values - tail in
-        LineOut g at tail scratch values (put_mid tail k scratch part) distances sites
+        LineOut kind at tail scratch values (put_mid tail k scratch part) distances sites
     unfolding height_at
     line_out part H S long =
         record {
@@ -187,32 +185,32 @@ module _ {g : Gauge} {at tail : ℕ} {squares scratch values : List ℕ} (L : Li
           used = tail_used L.believed part long;
         }
 
-module _ {g : Gauge} {y at tail : ℕ} {squares scratch values : List ℕ}
-    (B : Believed g squares at tail scratch (length values)) (row_in : y < side_limit)
-    (F : Filled g y (words_part at (length values) scratch) values) where
+module _ {kind : LineKind} {y at tail : ℕ} {scratch values : List ℕ}
+    (B : Believed at tail scratch (length values)) (row_in : y < side_limit)
+    (F : Filled kind y (words_part at (length values) scratch) values) where
   -- what fill has put for column i
-  filled : (i : ℕ) → i < length values → get_or values i 0 ≡ value_of g y (get_or scratch (at + i) 0)
-  filled i h = F.each i (omega (arith, words_length B)) ∙ ap (value_of g y) (words_at B i h)
+  filled : (i : ℕ) → i < length values → get_or values i 0 ≡ value_of kind y (get_or scratch (at + i) 0)
+  filled i h = F.each i (omega (arith, words_length B)) ∙ ap (value_of kind y) (words_at B i h)
 
   -- the values that fill puts are a line that can be read
-  pub line_read : LineRead g squares at tail scratch values
+  pub line_read : LineRead at tail scratch values
   line_read =
       record {
         believed = B;
         small = λ i h n.
             let word = get_or scratch (at + i) 0 in
             let l = row_named (B.named i h) n in
-            let s = lift_small g.kind (lt_of_le_of_lt (apart_below y word) (omega arith)) in
-            omega (arith, s, filled i h ∙ named_value g y n);
-        marked = λ i h e. filled i h ∙ marked_value g y e;
+            let s = lift_small (kind_number kind) (lt_of_le_of_lt (apart_below y word) (omega arith)) in
+            omega (arith, s, filled i h ∙ named_value kind y n);
+        marked = λ i h e. filled i h ∙ marked_value kind y e;
       }
 
   -- and what comes of it is the row of a picture
-  pub row_made : {after distances sites : List ℕ} → LineOut g at tail scratch values after distances sites
-      → RowMade g y at tail (length values) scratch after distances sites
+  pub row_made : {after distances sites : List ℕ} → LineOut kind at tail scratch values after distances sites
+      → RowMade kind y at tail (length values) scratch after distances sites
   row_made O =
       record {
         row = λ x h.
-            row_word_same (λ i l. refl) (λ i l n. filled i l ∙ named_value g y n) (O.row x h);
+            row_word_same (λ i l. refl) (λ i l n. filled i l ∙ named_value kind y n) (O.row x h);
         used = O.used;
       }

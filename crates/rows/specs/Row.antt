@@ -5,29 +5,29 @@ use Rattle.rules.specs.Limits.{side_limit, mark, line_limit}
 use Rattle.rules.specs.Board.{cell, away}
 use Rattle.rules.specs.Columns.{RowWord}
 use Rattle.rules.specs.Calls.{Beyond}
-use Rattle.gauge.specs.declared.Gauge.{Gauge}
-use Rattle.gauge.specs.Line.{measured, Measuring, height_at}
+use Rattle.rules.specs.declared.kind.LineKind.{LineKind}
+use Rattle.gauge.specs.Line.{measured, height_at}
 
 -- a column word that can be believed: a row below h, or the mark
 abbrev pub Named : ℕ → ℕ → Type 0
 Named h word = (word < h) ⊎ (word ≡ mark)
 
 -- the value of a column in row y: its word's difference of rows lifted, or the line limit for a marked column
-abbrev pub value_of : Gauge → ℕ → ℕ → ℕ
-value_of g y word = cond (eqb word mark) line_limit ((measured g).lift (away y word))
+abbrev pub value_of : LineKind → ℕ → ℕ → ℕ
+value_of kind y word = cond (eqb word mark) line_limit ((measured kind).lift (away y word))
 
 -- the values of a whole row
-pub record Filled (g : Gauge) (y : ℕ) (words values : List ℕ) : Type 0 where
-  pub each : (i : ℕ) → i < length words → get_or values i 0 ≡ value_of g y (get_or words i 0)
+pub record Filled (kind : LineKind) (y : ℕ) (words values : List ℕ) : Type 0 where
+  pub each : (i : ℕ) → i < length words → get_or values i 0 ≡ value_of kind y (get_or words i 0)
 
 -- each place of the line has a column of it in `winners`, whose height there is a u32 word
-pub record Winners (g : Gauge) (values winners : List ℕ) : Type 0 where
+pub record Winners (kind : LineKind) (values winners : List ℕ) : Type 0 where
   pub column_in : (x : ℕ) → x < length values → get_or winners x 0 < length values
-  pub small : (x : ℕ) → x < length values → height_at g values (get_or winners x 0) x < 2 ^ 32
+  pub small : (x : ℕ) → x < length values → height_at kind values (get_or winners x 0) x < 2 ^ 32
 
 -- the map words written from the winners
-pub record Heights (g : Gauge) (values winners distances : List ℕ) : Type 0 where
-  pub word : (x : ℕ) → x < length values → get_or distances x 0 ≡ height_at g values (get_or winners x 0) x
+pub record Heights (kind : LineKind) (values winners distances : List ℕ) : Type 0 where
+  pub word : (x : ℕ) → x < length values → get_or distances x 0 ≡ height_at kind values (get_or winners x 0) x
 
 -- each place of a row has a column of it in `winners`, whose word names a row
 pub record Chosen (words winners : List ℕ) : Type 0 where
@@ -41,10 +41,9 @@ pub record Sites (words winners sites : List ℕ) : Type 0 where
   pub site : (x : ℕ) → x < length words
       → get_or sites x 0 ≡ cell (length words) (get_or winners x 0) (get_or words (get_or winners x 0) 0)
 
--- what a row line is given: what it measures with, and of the scratch the w words of a row from `at` on, each a row or the
+-- what a row line is given of the scratch: the w words of a row from `at` on, each a row or the
 -- mark and one of them a row, and 2w free words from `tail` on
-pub record Believed (g : Gauge) (squares : List ℕ) (at tail : ℕ) (scratch : List ℕ) (w : ℕ) : Type 0 where
-  pub measuring : Measuring g squares
+pub record Believed (at tail : ℕ) (scratch : List ℕ) (w : ℕ) : Type 0 where
   pub from : 1 ≤ w
   pub to : w ≤ side_limit
   pub before_tail : at + w ≤ tail
@@ -55,8 +54,8 @@ pub record Believed (g : Gauge) (squares : List ℕ) (at tail : ℕ) (scratch : 
   pub i₀_named : get_or scratch (at + i₀) 0 ≢ mark
 
 -- a line filled from such words: a column that names a row has a small value, and a marked one the line limit
-pub record LineRead (g : Gauge) (squares : List ℕ) (at tail : ℕ) (scratch values : List ℕ) : Type 0 where
-  pub believed : Believed g squares at tail scratch (length values)
+pub record LineRead (at tail : ℕ) (scratch values : List ℕ) : Type 0 where
+  pub believed : Believed at tail scratch (length values)
   pub small : (i : ℕ) → i < length values → get_or scratch (at + i) 0 ≢ mark → get_or values i 0 < 2 ^ 31
   pub marked : (i : ℕ) → i < length values → get_or scratch (at + i) 0 ≡ mark → get_or values i 0 ≡ line_limit
 
@@ -67,13 +66,13 @@ pub record TailUsed (tail w : ℕ) (before after : List ℕ) : Type 0 where
 
 -- what comes of a filled line: over the columns that name a row, the least height of each place and the cell that the
 -- least such column names
-pub record LineOut (g : Gauge) (at tail : ℕ) (before values after distances sites : List ℕ) : Type 0 where
-  pub row : (x : ℕ) → x < length values → RowWord (length values) (measured g).combine (λ i. get_or before (at + i) 0)
+pub record LineOut (kind : LineKind) (at tail : ℕ) (before values after distances sites : List ℕ) : Type 0 where
+  pub row : (x : ℕ) → x < length values → RowWord (length values) (measured kind).combine (λ i. get_or before (at + i) 0)
       (λ i. get_or values i 0) x (get_or distances x 0) (get_or sites x 0)
   pub used : TailUsed tail (length values) before after
 
 -- what the row line of a picture leaves: the map words and sites of row y
-pub record RowMade (g : Gauge) (y at tail w : ℕ) (before after distances sites : List ℕ) : Type 0 where
-  pub row : (x : ℕ) → x < w → RowWord w (measured g).combine (λ i. get_or before (at + i) 0)
-      (λ i. (measured g).lift (away y (get_or before (at + i) 0))) x (get_or distances x 0) (get_or sites x 0)
+pub record RowMade (kind : LineKind) (y at tail w : ℕ) (before after distances sites : List ℕ) : Type 0 where
+  pub row : (x : ℕ) → x < w → RowWord w (measured kind).combine (λ i. get_or before (at + i) 0)
+      (λ i. (measured kind).lift (away y (get_or before (at + i) 0))) x (get_or distances x 0) (get_or sites x 0)
   pub used : TailUsed tail w before after

@@ -31,7 +31,7 @@ use Rattle.rules.specs.Tie.{Least, MapSite, CostMapSite}
 use Rattle.rules.specs.Changeover.{Changeover}
 use Rattle.rules.specs.Knob.{Good, pitch_word, radius_word}
 use Rattle.rules.specs.Lane.{WidestLane}
-use Rattle.rules.specs.Answers.{bench_number, bench_sites, bench_farthest, bench_cell}
+use Rattle.rules.specs.Answers.{number_of, bench_sites, bench_farthest, bench_cell}
 use Rattle.rules.specs.BenchFile.{bored_by, BenchWord, Farthest}
 use Rattle.rules.specs.Refusals.{Row, row, answer, scratch_words, clear_rows, opening_rows}
 use Rattle.rules.specs.Refusals.{bad_sides, bad_kind, bad_weights, bad_buffers, bad_path, bad_slices, bad_byte}
@@ -40,7 +40,7 @@ use Rattle.rules.specs.Refusals.{bad_line, bad_word, short_text, figure_rows, te
 use Rattle.rules.specs.Calls.{Call, Buffers, Beyond, MapAfter, SiteWord, LaneAfter, Opened, ClearAfter, BenchRead}
 use Rattle.rules.specs.Slices.{allowed, Among, SliceAfter, Chain}
 use Rattle.rules.specs.Figures.{Figure, picture_call, cost_call, lane_call, slice_call, chain, opening_call}
-use Rattle.rules.specs.Figures.{clear_call, changeover_call, bench_call, Slice, budgets, left, FigureHolds, AllHold}
+use Rattle.rules.specs.Figures.{clear_call, changeover_call, bench_call, Link, budgets, left, FigureHolds, AllHold}
 use Rattle.rules.specs.Figures.{millimetres_call, text_call, figures}
 use Rattle.rules.specs.Millimetres.{word_32, word_64, Root, FigureWord, Figured, Spelled, Told}
 use Rattle.rules.proofs.Calls.{refused_call, made_call}
@@ -245,8 +245,8 @@ slice_after {w} {h} {line = line} {budget} {picture} {number = number} {finished
     })
 
 -- calls lead from a line and its buffers to another
-abbrev chained : (w h kind : ℕ) (picture : List ℕ) (slices : List Slice) (line : ℕ) (before : Buffers) (end : ℕ)
-    → Test (Chain w h kind picture (budgets slices) line before end (left before slices))
+abbrev chained : (w h kind : ℕ) (picture : List ℕ) (links : List Link) (line : ℕ) (before : Buffers) (end : ℕ)
+    → Test (Chain w h kind picture (budgets links) line before end (left before links))
 chained w h kind picture [] line before end = so (same end line) (λ e. (e, refl))
 chained w h kind picture (s ∷ ss) line before end =
     so (both (ends 0 (same _ _) (both (same _ _) (same_buffers _ _)) slice_after)
@@ -407,7 +407,7 @@ figure labels wider (bench_call bytes r output) =
     (λ t. (
       t.0,
       record {
-        number = bench_number r;
+        number = number_of r;
         sites = bench_sites r;
         farthest = bench_farthest r;
         cell_number = bench_cell r;

@@ -16,6 +16,15 @@ use Rattle.rules.specs.Board.{away}
 use Rattle.rules.proofs.Board.{away_min, away_square}
 use Rattle.rules.specs.Limits.{cost_kind_limit}
 use Rattle.rules.specs.Measures.{measure, HasParts, HoldsAt, Lawful, Additive}
+use Rattle.rules.specs.Answers.{kind_number}
+use Rattle.rules.specs.declared.kind.LineKind.{LineKind}
+use Rattle.rules.specs.declared.kind.LineKind.TheVariants.{Euclid, Manhattan, Chessboard}
+
+-- the kinds of lines are kinds that have parts
+pub has_parts : (kind : LineKind) → HasParts (kind_number kind)
+has_parts Euclid = record { kind_in = omega arith; no_chamfer = λ e. omega (arith, e) }
+has_parts Manhattan = record { kind_in = omega arith; no_chamfer = λ e. omega (arith, e) }
+has_parts Chessboard = record { kind_in = omega arith; no_chamfer = λ e. omega (arith, e) }
 
 -- of two columns d apart, the products that the squares leave are no larger at x'
 crossed : (d i u x x' : ℕ) → d + i ≡ u → x' ≤ x → x' * u + x * i ≤ x' * i + x * u

@@ -8,8 +8,8 @@
 -- agree word by word are one list. A number of millimetres and its text follow from the one root, and two f64 of one
 -- word are one.
 --
--- An answer by cases is fixed as well. Its number tells the cases apart: a refusal with the number 0 would be an
--- accepted call with values that none has, a lane of no cells, a bench file with no bored cell or a text of no bytes.
+-- An answer by cases is fixed as well. Its number tells the cases apart, since no refusal has the number 0, and each
+-- refusal has its own.
 --
 -- Assumes nothing.
 use mathlib.Core.Path.{◌≡◌, refl, sym, ap, ◌∙◌, subst}
@@ -20,22 +20,16 @@ use Prim.Native.Nat.{ℕ, zero, suc, ◌+◌, ◌-◌, ◌*◌, ◌≤◌, ◌<�
 use native.Mathlib.Decide.{dec_lt, ℕ_discrete}
 use native.Mathlib.Omega.{arith}
 use lib.IntN.{ℤ}
+use Rattle.std.specs.Prelude.{Result, Ok, Err, Option, Some, None}
 use lib.Ieee.{Float, binary64, fits}
 use lib.ListN.{length, get_or, take}
 use lib.Seq.{ext_get_or, get_or-take, get_or-drop}
 use Rattle.rules.specs.declared.Setting.{Setting}
-use Rattle.rules.specs.declared.OpeningAnswer.{OpeningAnswer}
-use Rattle.rules.specs.declared.OpeningAnswer.TheVariants.{Whole, Refused as NotOpened}
-use Rattle.rules.specs.declared.ChangeoverAnswer.{ChangeoverAnswer}
-use Rattle.rules.specs.declared.ChangeoverAnswer.TheVariants.{At, Refused as NoChangeover}
-use Rattle.rules.specs.declared.LaneAnswer.{LaneAnswer}
-use Rattle.rules.specs.declared.LaneAnswer.TheVariants.{Found, Refused as NoLane}
-use Rattle.rules.specs.declared.BenchAnswer.{BenchAnswer}
-use Rattle.rules.specs.declared.BenchAnswer.TheVariants.{Read, Refused as NotRead}
-use Rattle.rules.specs.declared.FigureAnswer.{FigureAnswer}
-use Rattle.rules.specs.declared.FigureAnswer.TheVariants.{Millimetres, Refused as NoFigure}
-use Rattle.rules.specs.declared.TextAnswer.{TextAnswer}
-use Rattle.rules.specs.declared.TextAnswer.TheVariants.{Written, Refused as NotWritten}
+use Rattle.rules.specs.declared.refusal.Refusal.{Refusal}
+use Rattle.rules.specs.declared.refusal.Refusal.TheVariants.{Sides, Kind, Weights, Buffers as BadBuffers, Cell, NoBore, Ends, Setting as BadSetting, Changeover as BadChangeover, FileLength, OffBoard, Line, Word as BadWord}
+use Rattle.rules.specs.declared.answers.Opening.{Opening}
+use Rattle.rules.specs.declared.answers.Course.{Course}
+use Rattle.rules.specs.declared.answers.Reading.{Reading}
 use Rattle.rules.specs.Board.{cell}
 use Rattle.rules.specs.Measures.{chamfer_kind}
 use Rattle.rules.specs.Lane.{Lane}
@@ -44,10 +38,10 @@ use Rattle.rules.specs.BenchFile.{bored_by, bores, text}
 use Rattle.rules.specs.Refusals.{Row}
 use Rattle.rules.specs.Calls.{Call, Buffers, Beyond, MapAfter, SiteWord, PictureAfter, LaneAfter, ClearAfter, BenchRead}
 use Rattle.rules.specs.Calls.{PictureCall, CostCall, LaneCall, OpeningCall, ClearCall, ChangeoverCall, BenchCall, BenchPrints}
-use Rattle.rules.specs.Answers.{opening_number, opening_a, opening_b, changeover_number, changeover_at}
-use Rattle.rules.specs.Answers.{lane_number, lane_width, lane_cells}
-use Rattle.rules.specs.Answers.{bench_number, bench_sites, bench_farthest, bench_cell}
-use Rattle.rules.specs.Answers.{figure_number, figure_out, text_number, text_count}
+use Rattle.rules.specs.Answers.{refusal_number, stop_number, number_of, opening_a, opening_b, changeover_at}
+use Rattle.rules.specs.Answers.{lane_width, lane_cells}
+use Rattle.rules.specs.Answers.{bench_sites, bench_farthest, bench_cell}
+use Rattle.rules.specs.Answers.{figure_out, text_count}
 use Rattle.rules.specs.Millimetres.{word_64, millimetre_text, Figured, Spelled, Told, FigureOf, TextOf}
 use Rattle.rules.proofs.Board.{cell_of, column_below, row_below}
 use Rattle.rules.proofs.TieRule.{least_unique, map_site_unique, cost_map_site_unique}
@@ -222,23 +216,62 @@ pub bench_pinned : {bytes : List ℕ} {n n' sites sites' farthest farthest' cell
     → (n ≡ n') × (n ≡ 0 → (sites ≡ sites') × (farthest ≡ farthest') × (cell_number ≡ cell_number'))
 bench_pinned p q = agreed p q read_pinned
 
+-- the number of a row is that of one refusal: the one that stands there in this list
+abbrev numbered : List Refusal
+numbered =
+    Sides ∷ Sides ∷ Kind ∷ Weights ∷ BadBuffers ∷ Cell ∷ NoBore ∷ Ends ∷ BadSetting ∷ BadChangeover ∷ FileLength ∷ OffBoard
+    ∷ Line ∷ BadWord ∷ []
+
+abbrev refusal_of : ℕ → Refusal
+refusal_of n = get_or numbered n Sides
+
+refused_of : (r : Refusal) → refusal_of (refusal_number r) ≡ r
+refused_of = elim [ Sides ↦ refl | Kind ↦ refl | Weights ↦ refl | BadBuffers ↦ refl | Cell ↦ refl | NoBore ↦ refl | Ends ↦ refl | BadSetting ↦ refl | BadChangeover ↦ refl | FileLength ↦ refl | OffBoard ↦ refl | Line ↦ refl | BadWord ↦ refl ]
+
+pub refusal_pinned : {r r' : Refusal} → refusal_number r ≡ refusal_number r' → r ≡ r'
+refusal_pinned {r} {r'} same = sym (refused_of r) ∙ ap refusal_of same ∙ refused_of r'
+
+-- no refusal has the number 0
+pub not_zero : (r : Refusal) → 0 < refusal_number r
+not_zero = elim [ Sides ↦ omega arith | Kind ↦ omega arith | Weights ↦ omega arith | BadBuffers ↦ omega arith | Cell ↦ omega arith | NoBore ↦ omega arith | Ends ↦ omega arith | BadSetting ↦ omega arith | BadChangeover ↦ omega arith | FileLength ↦ omega arith | OffBoard ↦ omega arith | Line ↦ omega arith | BadWord ↦ omega arith ]
+
+-- two answers of one number are one, if their values are where both are accepted
+pub answer_pinned : {A : Type 0} (r r' : Result A Refusal) → number_of r ≡ number_of r'
+    → ((a a' : A) → r ≡ Ok a → r' ≡ Ok a' → a ≡ a') → r ≡ r'
+answer_pinned (Ok a) (Ok a') same one = ap Ok (one a a' refl refl)
+answer_pinned (Ok a) (Err e) same one = absurd (omega (arith, same, not_zero e))
+answer_pinned (Err e) (Ok a) same one = absurd (omega (arith, same, not_zero e))
+answer_pinned (Err e) (Err e') same one = ap Err (refusal_pinned same)
+
+-- two stops of one number are one
+pub stop_pinned : (s s' : Option Refusal) → stop_number s ≡ stop_number s' → s ≡ s'
+stop_pinned None None same = refl
+stop_pinned None (Some r) same = absurd (omega (arith, same, not_zero r))
+stop_pinned (Some r) None same = absurd (omega (arith, same, not_zero r))
+stop_pinned (Some r) (Some r') same = ap Some (refusal_pinned same)
+
+-- a value of an accepted answer
+pub valued : {A B : Type 0} {r r' : Result A Refusal} {a a' : A} (f : Result A Refusal → B) → f r ≡ f r' → r ≡ Ok a
+    → r' ≡ Ok a' → f (Ok a) ≡ f (Ok a')
+valued f v e e' = sym (ap f e) ∙ v ∙ ap f e'
+
 -- the opening has one answer
-pub opening_answer_pinned : {s : Setting} (r r' : OpeningAnswer)
-    → OpeningCall s (opening_number r) (opening_a r) (opening_b r)
-    → OpeningCall s (opening_number r') (opening_a r') (opening_b r') → r ≡ r'
-opening_answer_pinned (Whole a b) (Whole a' b') p q = let (e, f) = (opening_pinned p q).1 refl in cc
-opening_answer_pinned (Whole a b) NotOpened p q = absurd (omega (arith, (opening_pinned p q).0))
-opening_answer_pinned NotOpened (Whole a b) p q = absurd (omega (arith, (opening_pinned p q).0))
-opening_answer_pinned NotOpened NotOpened p q = refl
+pub opening_answer_pinned : {s : Setting} (r r' : Result Opening Refusal)
+    → OpeningCall s (number_of r) (opening_a r) (opening_b r)
+    → OpeningCall s (number_of r') (opening_a r') (opening_b r') → r ≡ r'
+opening_answer_pinned r r' p q =
+    let (same, one) = opening_pinned p q in
+    answer_pinned r r' same
+    (λ o o' e e'. let (a, b) = one (ap number_of e) in
+    λ i. record { a = valued opening_a a e e' i; b = valued opening_b b e e' i })
 
 -- the changeover's entry has one answer
-pub changeover_answer_pinned : {i u a b : ℕ} (r r' : ChangeoverAnswer)
-    → ChangeoverCall i u a b (changeover_number r) (changeover_at r)
-    → ChangeoverCall i u a b (changeover_number r') (changeover_at r') → r ≡ r'
-changeover_answer_pinned (At p) (At p') c e = ap At ((changeover_pinned c e).1 refl)
-changeover_answer_pinned (At p) NoChangeover c e = absurd (omega (arith, (changeover_pinned c e).0))
-changeover_answer_pinned NoChangeover (At p) c e = absurd (omega (arith, (changeover_pinned c e).0))
-changeover_answer_pinned NoChangeover NoChangeover c e = refl
+pub changeover_answer_pinned : {i u a b : ℕ} (r r' : Result ℤ Refusal)
+    → ChangeoverCall i u a b (number_of r) (changeover_at r)
+    → ChangeoverCall i u a b (number_of r') (changeover_at r') → r ≡ r'
+changeover_answer_pinned r r' c d =
+    let (same, one) = changeover_pinned c d in
+    answer_pinned r r' same (λ p p' e e'. valued changeover_at (one (ap number_of e)) e e')
 
 -- a lane that was found has a cell
 pub cells_not_zero : {w h : ℕ} {picture : List ℕ} {from to : ℕ} {before after : Buffers} {path exit : List ℕ} {broad : ℕ}
@@ -248,19 +281,16 @@ cells_not_zero l = l.found.best.lane
 
 -- the lane entry has one answer, and leaves the path and the buffers in one way
 pub lane_answer_pinned : {w h : ℕ} {picture : List ℕ} {from to : ℕ} {before after after' : Buffers}
-    {path exit exit' : List ℕ} (r r' : LaneAnswer)
-    → LaneCall w h picture from to before path (lane_number r) (lane_width r) (lane_cells r) after exit
-    → LaneCall w h picture from to before path (lane_number r') (lane_width r') (lane_cells r') after' exit'
+    {path exit exit' : List ℕ} (r r' : Result Course Refusal)
+    → LaneCall w h picture from to before path (number_of r) (lane_width r) (lane_cells r) after exit
+    → LaneCall w h picture from to before path (number_of r') (lane_width r') (lane_cells r') after' exit'
     → (r ≡ r') × (after ≡ after') × (exit ≡ exit')
-lane_answer_pinned (Found broad cells) (Found broad' cells') p q =
+lane_answer_pinned r r' p q =
     let (same, buffers, path, one) = lane_pinned p q in
-    let (e, f) = one refl in
-    (cc, buffers, path)
-lane_answer_pinned (Found broad cells) (NoLane n) p q = absurd (cells_not_zero (q.done (sym (lane_pinned p q).0)))
-lane_answer_pinned (NoLane n) (Found broad cells) p q = absurd (cells_not_zero (p.done (lane_pinned p q).0))
-lane_answer_pinned (NoLane n) (NoLane n') p q =
-    let (same, buffers, path, one) = lane_pinned p q in
-    (ap NoLane same, buffers, path)
+    let answer = answer_pinned r r' same
+    (λ l l' e e'. let (broad, cells) = one (ap number_of e) in
+    λ i. record { width = valued lane_width broad e e' i; cells = valued lane_cells cells e e' i }) in
+    (answer, buffers, path)
 
 -- a bored cell is counted
 counted : (picture : List ℕ) (c : ℕ) → get_or picture c 0 ≡ 1 → 0 < bores picture
@@ -275,13 +305,18 @@ sites_not_zero {bytes} r =
     omega (arith, r.sites_is, counted (bored_by bytes) (cell bench_side a.i a.j) a.feature)
 
 -- the bench file's function has one answer
-pub bench_answer_pinned : {bytes : List ℕ} (r r' : BenchAnswer)
-    → BenchCall bytes (bench_number r) (bench_sites r) (bench_farthest r) (bench_cell r)
-    → BenchCall bytes (bench_number r') (bench_sites r') (bench_farthest r') (bench_cell r') → r ≡ r'
-bench_answer_pinned (Read s f c) (Read s' f' c') p q = let (d, e, g) = (bench_pinned p q).1 refl in cc
-bench_answer_pinned (Read s f c) (NotRead n) p q = absurd (sites_not_zero (q.done (sym (bench_pinned p q).0)))
-bench_answer_pinned (NotRead n) (Read s f c) p q = absurd (sites_not_zero (p.done (bench_pinned p q).0))
-bench_answer_pinned (NotRead n) (NotRead n') p q = ap NotRead (bench_pinned p q).0
+pub bench_answer_pinned : {bytes : List ℕ} (r r' : Result Reading Refusal)
+    → BenchCall bytes (number_of r) (bench_sites r) (bench_farthest r) (bench_cell r)
+    → BenchCall bytes (number_of r') (bench_sites r') (bench_farthest r') (bench_cell r') → r ≡ r'
+bench_answer_pinned r r' p q =
+    let (same, one) = bench_pinned p q in
+    answer_pinned r r' same
+    (λ b b' e e'. let (sites, farthest, cell) = one (ap number_of e) in
+    λ i. record {
+      sites = valued bench_sites sites e e' i;
+      farthest = valued bench_farthest farthest e e' i;
+      cell = valued bench_cell cell e e' i;
+    })
 
 -- a refusal's line is its number's alone
 refused_line : (n s s' f f' c c' : ℕ) → n ≢ 0 → text n s f c ≡ text n s' f' c'
@@ -338,15 +373,14 @@ text_pinned p q =
     (same, settled same p.refused q.refused (λ z. (one z).1), λ z. (one z).0)
 
 -- the figure's entry has one answer. What it answers fits the format, as every f64 does (`fits`).
-pub figure_answer_pinned : {under : ℕ → ℕ} {pitch : Float} (r r' : FigureAnswer)
+pub figure_answer_pinned : {under : ℕ → ℕ} {pitch : Float} (r r' : Result Float Refusal)
     → fits binary64 (figure_out r) ≡ true → fits binary64 (figure_out r') ≡ true
-    → FigureOf under pitch (figure_number r) (figure_out r) → FigureOf under pitch (figure_number r') (figure_out r')
+    → FigureOf under pitch (number_of r) (figure_out r) → FigureOf under pitch (number_of r') (figure_out r')
     → r ≡ r'
-figure_answer_pinned (Millimetres v) (Millimetres v') f f' p q =
-    ap Millimetres (one_value binary64 v v' f f' ((figure_pinned p q).1 refl))
-figure_answer_pinned (Millimetres v) NoFigure f f' p q = absurd (omega (arith, (figure_pinned p q).0))
-figure_answer_pinned NoFigure (Millimetres v) f f' p q = absurd (omega (arith, (figure_pinned p q).0))
-figure_answer_pinned NoFigure NoFigure f f' p q = refl
+figure_answer_pinned r r' f f' p q =
+    let (same, one) = figure_pinned p q in
+    answer_pinned r r' same
+    (λ v v' e e'. valued figure_out (one_value binary64 _ _ f f' (one (ap number_of e))) e e')
 
 -- a text that was written has a byte
 pub text_not_empty : {pitch : Float} {under : ℕ → ℕ} {before after : List ℕ}
@@ -356,12 +390,9 @@ text_not_empty t =
     omega (arith, w.text.count_is, text_length w.n)
 
 -- the text's entry has one answer, and leaves the bytes in one way
-pub text_answer_pinned : {under : ℕ → ℕ} {pitch : Float} {before after after' : List ℕ} (r r' : TextAnswer)
-    → TextOf under pitch before (text_number r) (text_count r) after
-    → TextOf under pitch before (text_number r') (text_count r') after' → (r ≡ r') × (after ≡ after')
-text_answer_pinned (Written count) (Written count') p q =
-    let (same, after, one) = text_pinned p q in (ap Written (one refl), after)
-text_answer_pinned (Written count) (NotWritten n) p q = absurd (text_not_empty (q.done (sym (text_pinned p q).0)))
-text_answer_pinned (NotWritten n) (Written count) p q = absurd (text_not_empty (p.done (text_pinned p q).0))
-text_answer_pinned (NotWritten n) (NotWritten n') p q =
-    let (same, after, one) = text_pinned p q in (ap NotWritten same, after)
+pub text_answer_pinned : {under : ℕ → ℕ} {pitch : Float} {before after after' : List ℕ} (r r' : Result ℕ Refusal)
+    → TextOf under pitch before (number_of r) (text_count r) after
+    → TextOf under pitch before (number_of r') (text_count r') after' → (r ≡ r') × (after ≡ after')
+text_answer_pinned r r' p q =
+    let (same, after, one) = text_pinned p q in
+    (answer_pinned r r' same (λ c c' e e'. valued text_count (one (ap number_of e)) e e'), after)

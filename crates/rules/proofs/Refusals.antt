@@ -8,19 +8,21 @@
 -- goes by one law for all tests of a number: it is false exactly when every number of the list fails it. An entry that
 -- answers 0 therefore has the facts of all of its rows at once, and the bored cell that row 6 promises gets its column
 -- and row by dividing its number by the width. Assumes nothing.
-use mathlib.Core.Path.{◌≡◌, refl, sym, ap, ◌∙◌}
+use mathlib.Core.Path.{◌≡◌, refl, sym, ap, ◌∙◌, subst}
 use mathlib.Core.Logic.{◌↔◌, ◌≢◌, ◌⊎◌, inl, inr, ⊎_elim, by_cases}
 use mathlib.Core.Bool.{Bool, true, false, not, cond, ◌&&◌, ◌||◌, true≢false, false≢true, and-eq-true_iff, or-true}
 use mathlib.Core.List.{List, [], ◌∷◌, map}
 use Prim.Native.Nat.{ℕ, zero, suc, ◌*◌, ◌/◌, ◌%◌, ◌≤◌, ◌<◌, suc-le-suc}
 use native.Mathlib.Nat.{le_refl, le_of_suc-le-suc, not-suc-le-zero, zero-lt-suc, mul_comm}
 use native.Mathlib.Nat.{mod-lt, div-add-mod', div-lt_iff_lt-mul}
-use native.Mathlib.Decide.{ℕ_discrete}
+use native.Mathlib.Decide.{dec_lt, ℕ_discrete}
 use native.Mathlib.Omega.{arith}
 use lib.Dec.{leb, eqb, lit<}
 use lib.ListN.{length, get_or, drop, get_or-eq_default}
 use borrow.Author.Tests.{ltb-false, leb-true, leb-false, eqb-true, eqb-false, not-true, not-false}
 use borrow.Author.Tests.{le-ltb, le-leb, lt-leb, eq-eqb, ne_eqb}
+use Rattle.std.specs.Prelude.{Any, All}
+use Rattle.std.proofs.lemmas.List.{get_or_default}
 use Rattle.rules.specs.declared.Setting.{Setting}
 use Rattle.rules.specs.Limits.{kind_limit, cost_kind_limit, mark, cost_limit, file_limit, bench_side, text_bytes}
 use Rattle.rules.specs.Board.{Sides, cell, Bored, Unmarked}
@@ -191,6 +193,23 @@ any_here p [] k h e = absurd (not-suc-le-zero h)
 any_here p (b ∷ l) zero h e = rw e
 any_here p (b ∷ l) (suc k) h e = rw (any_here p l k (le_of_suc-le-suc h) e) (or-true (p b))
 
+-- two tests of which each is true where the other is are one
+pub same_test : (a b : Bool) → (a ≡ true → b ≡ true) → (b ≡ true → a ≡ true) → a ≡ b
+same_test true true to from = refl
+same_test true false to from = sym (to refl)
+same_test false true to from = from refl
+same_test false false to from = refl
+
+-- what is true just where some number of the list has P is the test of P
+pub any_told : (p : ℕ → Bool) {P : ℕ → Type 0} → ((n : ℕ) → P n → p n ≡ true) → ((n : ℕ) → p n ≡ true → P n)
+    → (a : Bool) (l : List ℕ) → ((a ≡ true) ↔ Any P l) → a ≡ any p l
+any_told p {P} to from a l told =
+    same_test a (any p l)
+    (λ e. let (k, x, h, here, has) = told.0 e in
+    any_here p l k h (to (get_or l k 0) (subst P (sym here ∙ get_or_default l k x 0 h) has)))
+    (λ e. let (k, h, q) = any_true_means p l e in
+    told.1 (k, get_or l k 0, h, get_or_default l k (get_or l k 0) 0 h, from (get_or l k 0) q))
+
 -- where the first i numbers fail, the test of the rest decides
 pub any_drop : (p : ℕ → Bool) (l : List ℕ) (i : ℕ) → ((k : ℕ) → k < i → p (get_or l k 0) ≡ false)
     → any p l ≡ any p (drop i l)
@@ -323,6 +342,13 @@ bore_passes picture e =
     let (k, h, q) = any_true_means (eqb 1) picture (search reads) in
     (k, h, sym (eqb-true 1 (get_or picture k 0) q))
 
+-- a byte above 1 is bad, and a bad byte is above 1
+pub bad_above : (b : ℕ) → 1 < b → bad_byte b ≡ true
+bad_above b h = holds_unless (bad_byte b) (λ e. omega (arith, byte_passes b e))
+
+pub above_bad : (b : ℕ) → bad_byte b ≡ true → 1 < b
+above_bad b e = by_cases (dec_lt 1 b) (λ h. h) (λ n. absurd (true≢false (sym e ∙ byte_good b (omega arith))))
+
 -- of such a picture row 6 does not hold
 pub bore_good : (picture : List ℕ) → (k : ℕ) × (k < length picture) × (get_or picture k 0 ≡ 1) → no_bore picture ≡ false
 unfolding no_bore
@@ -342,6 +368,17 @@ pub unmarked_good : (costs : List ℕ) → (k : ℕ) × (k < length costs) × (g
 unfolding all_marked
 unmarked_good costs (k, h, q) =
     rw (any_here (λ c. not (eqb c mark)) costs k h (ap not (ne_eqb (get_or costs k 0) mark q)))
+
+-- what is true just where every cost is the mark is row 6
+pub marked_told : (a : Bool) (costs : List ℕ) → ((a ≡ true) ↔ All (λ cost. cost ≡ mark) costs) → a ≡ all_marked costs
+marked_told a costs told =
+    same_test a (all_marked costs)
+    (λ e. holds_unless (all_marked costs) (λ f. let (k, h, other) = unmarked_passes costs f in other (told.0 e k 0 h)))
+    (λ e. told.1 (λ k d h.
+    let here : get_or costs k 0 ≡ mark =
+    by_cases (ℕ_discrete (get_or costs k 0) mark) (λ q. q)
+    (λ other. absurd (true≢false (sym e ∙ unmarked_good costs (k, h, other)))) in
+    get_or_default costs k d 0 h ∙ here))
 
 -- row 7 does not hold: both ends of the lane are cells of the board
 pub ends_passes : (w h from to : ℕ) → bad_ends w h from to ≡ false → (from < w * h) × (to < w * h)

@@ -7,8 +7,9 @@
 -- Then the line at which the first stops is one that the second finishes, so that its number is not 0 in the first and 0
 -- in the second. But it is the same: that of a column is the picture's alone, and the words of a row are in both calls
 -- those of the same finished columns, or as they were. So the calls finish the same lines, and then every word is one: a
--- finished line has one word at each cell, and all else is as it was. An answer by cases is fixed as well: a refusal with
--- the number 0 would be a call that worked and names the mark as its next line, which is no line of a board.
+-- finished line has one word at each cell, and all else is as it was. An answer by cases is fixed as well: no refusal has
+-- the number 0, and each has its own. Nor does a call that worked name the mark as its next line, which is no line of a
+-- board.
 --
 -- A chain of calls from line 0 keeps this: of the lines before the one that it has reached, each column has its words, each
 -- row has what it makes of the words that stand in the scratch, and none of them stops. A call keeps it because it works on
@@ -27,8 +28,9 @@ use Prim.Native.Nat.{ℕ, ◌+◌, ◌-◌, ◌*◌, ◌≤◌, ◌<◌}
 use native.Mathlib.Decide.{dec_le, dec_lt, ℕ_discrete}
 use native.Mathlib.Omega.{arith}
 use lib.ListN.{length, get_or}
-use Rattle.rules.specs.declared.SliceAnswer.{SliceAnswer}
-use Rattle.rules.specs.declared.SliceAnswer.TheVariants.{Worked, Refused as NotBegun}
+use Rattle.rules.specs.declared.refusal.Refusal.{Refusal}
+use Rattle.rules.specs.declared.answers.Slice.{Slice}
+use Rattle.std.specs.Prelude.{Result}
 use Rattle.rules.specs.Limits.{mark, kind_limit}
 use Rattle.rules.specs.Board.{cell, away, Bored}
 use Rattle.rules.specs.Measures.{distance, measure, HasParts}
@@ -36,7 +38,7 @@ use Rattle.rules.specs.Columns.{ColumnWord, RowWord}
 use Rattle.rules.specs.Tie.{MapWord, MapSite}
 use Rattle.rules.specs.Refusals.{some, answer, scratch_words, picture_rows}
 use Rattle.rules.specs.Accepted.{Bytes, Somewhere, PictureAccepted, SliceAccepted}
-use Rattle.rules.specs.Answers.{slice_start, slice_number, slice_finished, slice_next}
+use Rattle.rules.specs.Answers.{number_of, slice_number, slice_finished, slice_next}
 use Rattle.rules.specs.Calls.{Buffers, Beyond, PictureAfter, PictureCall}
 use Rattle.rules.specs.Slices.{word_at, line_number, allowed, Among, BelievedWord, SliceAfter}
 use Rattle.rules.specs.Slices.{SliceCall, Chain}
@@ -47,7 +49,7 @@ use Rattle.rules.proofs.Columns.{parts, column_word_unique, row_word_unique, row
 use Rattle.rules.proofs.Refusals.{sides_good, kind_good, weights_good, buffers_good, bytes_good, bore_good}
 use Rattle.rules.proofs.SliceRows.{slice_accepted, slice_parts, column_0, column_passes, row_0, row_passes}
 use Rattle.rules.proofs.SliceRows.{column_line_number, row_line_number, line_number_same}
-use Rattle.rules.proofs.Pinned.{agreed, settled, each_cell, lists_pinned}
+use Rattle.rules.proofs.Pinned.{agreed, settled, each_cell, lists_pinned, answer_pinned, valued, stop_pinned}
 
 module _ {kind w x d site : ℕ} {words : ℕ → ℕ} (y : ℕ) (p : HasParts kind) where
   -- a row line by the parts of a kind is one by its distances
@@ -169,21 +171,22 @@ module _ {w h kind line budget : ℕ} {picture : List ℕ} {before : Buffers} wh
   next_not_mark c z = let a = slice_has c z in omega (arith, next_in (c.done z) a.line_in, a.sides)
 
   -- the sliced entry has one answer, and leaves the buffers in one way
-  pub slice_answer_pinned : {after after' : Buffers} (r r' : SliceAnswer)
-      → SliceCall w h kind line budget picture before (slice_start r) (slice_number r) (slice_finished r) (slice_next r)
+  pub slice_answer_pinned : {after after' : Buffers} (r r' : Result Slice Refusal)
+      → SliceCall w h kind line budget picture before (number_of r) (slice_number r) (slice_finished r) (slice_next r)
       after
-      → SliceCall w h kind line budget picture before (slice_start r') (slice_number r') (slice_finished r') (slice_next r')
+      → SliceCall w h kind line budget picture before (number_of r') (slice_number r') (slice_finished r') (slice_next r')
       after'
       → (r ≡ r') × (after ≡ after')
-  slice_answer_pinned (Worked n f k) (Worked n' f' k') p q =
+  slice_answer_pinned r r' p q =
       let (same, number, buffers, one) = slice_pinned p q in
-      let (finished, next) = one refl in
-      (cc, buffers)
-  slice_answer_pinned (Worked n f k) (NotBegun m) p q = absurd (next_not_mark q (sym (slice_pinned p q).0))
-  slice_answer_pinned (NotBegun m) (Worked n f k) p q = absurd (next_not_mark p (slice_pinned p q).0)
-  slice_answer_pinned (NotBegun m) (NotBegun m') p q =
-      let (same, number, buffers, one) = slice_pinned p q in
-      (ap NotBegun same, buffers)
+      let answer = answer_pinned r r' same
+      (λ s s' e e'. let (finished, next) = one (ap number_of e) in
+      λ i. record {
+        stop = stop_pinned s.stop s'.stop (valued slice_number number e e') i;
+        finished = valued slice_finished finished e e' i;
+        next = valued slice_next next e e' i;
+      }) in
+      (answer, buffers)
 
 -- a picture call that has what an accepted one has answers 0
 picture_answers : {w h kind d1 d2 : ℕ} {picture : List ℕ} {distances sites scratch : ℕ}

@@ -18,6 +18,8 @@ use Rattle.rules.specs.Board.{away}
 use Rattle.rules.proofs.Board.{away_self, away_zero}
 use Rattle.rules.specs.Measures.{chamfer, Weights}
 use Rattle.rules.specs.Table.{step, back, none, on, steps, weight, Leads}
+use Rattle.rules.specs.declared.Choice.{Choice}
+use Rattle.rules.specs.declared.Choice.TheVariants.{D1, D2}
 use Rattle.rules.specs.declared.Step.{Step}
 
 -- A walk from the cell (i, j) over a board of w columns and h rows, with the cell that it ends in and what its steps
@@ -157,8 +159,14 @@ size t = nat_abs (turned t)
 -- how a step is found in the table
 ruleset in_table = (Memᴰ.head, Memᴰ.tail)
 
+-- what is chosen by as many turns
+abbrev chosen : ℕ → Choice
+chosen zero = D1
+chosen (suc zero) = D1
+chosen (suc (suc k)) = D2
+
 -- the table has every pair of turns but the one that stays in its cell
-complete : (r c : Turn) → 0 < size r + size c → Memᴰ (step (turned r) (turned c) (size r + size c)) steps
+complete : (r c : Turn) → 0 < size r + size c → Memᴰ (step (turned r) (turned c) (chosen (size r + size c))) steps
 complete backward backward h = search in_table depth 9
 complete backward unmoved h = search in_table depth 9
 complete backward onward h = search in_table depth 9

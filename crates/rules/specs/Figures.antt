@@ -1,32 +1,24 @@
 -- Whole calls in figures, as one list of values of one type. Each says the very record of `Calls` and its like that its
--- entry's contract cites, and where an entry answers an enum, through `Answers`. The samples and the edges stop below: they
+-- entry's contract cites, and where an entry answers values, through `Answers`. The samples and the edges stop below: they
 -- speak of words, sites, lanes and rows. Here it shows which of them stands where in a call, and what the call leaves: a
 -- rule that takes one for another fails. A `Figure` is such a call; the figure of document 02, E4, is an f64, and the calls
 -- that tell one are `millimetres_call` and `text_call`. `proofs/Figures.antt` proves the claim `AllHold` of the list.
 -- Assumes nothing.
-use Rattle.std.specs.Prelude.{false, List, [], ◌∷◌, ◌++◌, ℕ, ◌+◌, pos, negsuc, Float, replicate}
+use Rattle.std.specs.Prelude.{false, List, [], ◌∷◌, ◌++◌, ℕ, ◌+◌, ℤ, pos, negsuc, Float, replicate, Result, Ok, Err, Option, Some, None}
 use Rattle.std.specs.Float.{nan, fin}
 use Rattle.rules.specs.declared.Setting.{Setting}
-use Rattle.rules.specs.declared.OpeningAnswer.{OpeningAnswer}
-use Rattle.rules.specs.declared.OpeningAnswer.TheVariants.{Whole, Refused as NotOpened}
-use Rattle.rules.specs.declared.ChangeoverAnswer.{ChangeoverAnswer}
-use Rattle.rules.specs.declared.ChangeoverAnswer.TheVariants.{At, Refused as NoChangeover}
-use Rattle.rules.specs.declared.LaneAnswer.{LaneAnswer}
-use Rattle.rules.specs.declared.LaneAnswer.TheVariants.{Found, Refused as NoLane}
-use Rattle.rules.specs.declared.SliceAnswer.{SliceAnswer}
-use Rattle.rules.specs.declared.SliceAnswer.TheVariants.{Worked, Refused as NotBegun}
-use Rattle.rules.specs.declared.BenchAnswer.{BenchAnswer}
-use Rattle.rules.specs.declared.BenchAnswer.TheVariants.{Read, Refused as NotRead}
-use Rattle.rules.specs.declared.FigureAnswer.{FigureAnswer}
-use Rattle.rules.specs.declared.FigureAnswer.TheVariants.{Millimetres, Refused as NoFigure}
-use Rattle.rules.specs.declared.TextAnswer.{TextAnswer}
-use Rattle.rules.specs.declared.TextAnswer.TheVariants.{Written, Refused as NotWritten}
+use Rattle.rules.specs.declared.refusal.Refusal.{Refusal}
+use Rattle.rules.specs.declared.refusal.Refusal.TheVariants.{Cell, NoBore, Ends, Setting as BadSetting, Changeover as BadChangeover, Line, Word, Buffers as ShortText}
+use Rattle.rules.specs.declared.answers.Opening.{Opening}
+use Rattle.rules.specs.declared.answers.Course.{Course}
+use Rattle.rules.specs.declared.answers.Reading.{Reading}
+use Rattle.rules.specs.declared.answers.Slice.{Slice}
 use Rattle.rules.specs.BenchFile.{text}
-use Rattle.rules.specs.Answers.{opening_number, opening_a, opening_b, changeover_number, changeover_at}
-use Rattle.rules.specs.Answers.{lane_number, lane_width, lane_cells}
-use Rattle.rules.specs.Answers.{slice_start, slice_number, slice_finished, slice_next}
-use Rattle.rules.specs.Answers.{bench_number, bench_sites, bench_farthest, bench_cell}
-use Rattle.rules.specs.Answers.{figure_number, figure_out, text_number, text_count}
+use Rattle.rules.specs.Answers.{number_of, opening_a, opening_b, changeover_at}
+use Rattle.rules.specs.Answers.{lane_width, lane_cells}
+use Rattle.rules.specs.Answers.{slice_number, slice_finished, slice_next}
+use Rattle.rules.specs.Answers.{bench_sites, bench_farthest, bench_cell}
+use Rattle.rules.specs.Answers.{figure_out, text_count}
 use Rattle.rules.specs.Calls.{Buffers, buffers, PictureCall, CostCall, LaneCall, OpeningCall, ClearCall}
 use Rattle.rules.specs.Calls.{ChangeoverCall, BenchCall, BenchPrints}
 use Rattle.rules.specs.Slices.{SliceCall, Chain}
@@ -34,23 +26,36 @@ use Rattle.rules.specs.Millimetres.{FigureCall, TextCall}
 use Rattle.rules.specs.Edges.{setting}
 
 -- a call of a chain: its budget; the lines finished, the next line and the buffers after
-pub record Slice : Type 0 where
+pub record Link : Type 0 where
   pub budget : ℕ
   pub finished : ℕ
   pub next : ℕ
   pub after : Buffers
 
-abbrev pub slice : ℕ → ℕ → ℕ → Buffers → Slice
-slice budget finished next after = record { budget = budget; finished = finished; next = next; after = after }
+abbrev pub link : ℕ → ℕ → ℕ → Buffers → Link
+link budget finished next after = record { budget = budget; finished = finished; next = next; after = after }
 
 -- the budgets of a chain's calls, and the buffers after the last of them
-abbrev pub budgets : List Slice → List ℕ
+abbrev pub budgets : List Link → List ℕ
 budgets [] = []
 budgets (s ∷ ss) = s.budget ∷ budgets ss
 
-abbrev pub left : Buffers → List Slice → Buffers
+abbrev pub left : Buffers → List Link → Buffers
 left before [] = before
 left before (s ∷ ss) = left s.after ss
+
+-- answers by their numbers
+abbrev pub opened : ℕ → ℕ → Result Opening Refusal
+opened a b = Ok (record { a = a; b = b })
+
+abbrev pub found : ℕ → ℕ → Result Course Refusal
+found width cells = Ok (record { width = width; cells = cells })
+
+abbrev pub read : ℕ → ℕ → ℕ → Result Reading Refusal
+read sites farthest cell = Ok (record { sites = sites; farthest = farthest; cell = cell })
+
+abbrev pub worked : Option Refusal → ℕ → ℕ → Result Slice Refusal
+worked stop finished next = Ok (record { stop = stop; finished = finished; next = next })
 
 pub data Figure : Type 0 where
   -- W, H, kind, d1, d2, the picture, the buffers; the number, the buffers after
@@ -58,41 +63,41 @@ pub data Figure : Type 0 where
   -- W, H, kind, the costs, the buffers; the number, the buffers after
   cost_call : ℕ → ℕ → ℕ → List ℕ → Buffers → ℕ → Buffers → Figure
   -- W, H, the picture, the two ends, the buffers, the path; the answer, the buffers and the path after
-  lane_call : ℕ → ℕ → List ℕ → ℕ → ℕ → Buffers → List ℕ → LaneAnswer → Buffers → List ℕ → Figure
+  lane_call : ℕ → ℕ → List ℕ → ℕ → ℕ → Buffers → List ℕ → Result Course Refusal → Buffers → List ℕ → Figure
   -- W, H, kind, the line, the budget, the picture, the buffers; the answer, the buffers after
-  slice_call : ℕ → ℕ → ℕ → ℕ → ℕ → List ℕ → Buffers → SliceAnswer → Buffers → Figure
+  slice_call : ℕ → ℕ → ℕ → ℕ → ℕ → List ℕ → Buffers → Result Slice Refusal → Buffers → Figure
   -- W, H, kind, the picture, the buffers; the calls from line 0 to W + H
-  chain : ℕ → ℕ → ℕ → List ℕ → Buffers → List Slice → Figure
+  chain : ℕ → ℕ → ℕ → List ℕ → Buffers → List Link → Figure
   -- the setting; the answer
-  opening_call : Setting → OpeningAnswer → Figure
+  opening_call : Setting → Result Opening Refusal → Figure
   -- the setting, the squares, the bytes; the number, the bytes after
   clear_call : Setting → List ℕ → List ℕ → ℕ → List ℕ → Figure
   -- i, u, a, b; the answer
-  changeover_call : ℕ → ℕ → ℕ → ℕ → ChangeoverAnswer → Figure
+  changeover_call : ℕ → ℕ → ℕ → ℕ → Result ℤ Refusal → Figure
   -- the bytes of the file; the answer, and the text that is printed
-  bench_call : List ℕ → BenchAnswer → List ℕ → Figure
+  bench_call : List ℕ → Result Reading Refusal → List ℕ → Figure
   -- d, the pitch; the answer
-  millimetres_call : ℕ → Float → FigureAnswer → Figure
+  millimetres_call : ℕ → Float → Result Float Refusal → Figure
   -- d, the pitch, the bytes; the answer, the bytes after
-  text_call : ℕ → Float → List ℕ → TextAnswer → List ℕ → Figure
+  text_call : ℕ → Float → List ℕ → Result ℕ Refusal → List ℕ → Figure
 
 -- what a figure says of the rules
 abbrev pub FigureHolds : Figure → Type 0
 FigureHolds (picture_call w h kind d1 d2 picture before n after) = PictureCall w h kind d1 d2 picture before n after
 FigureHolds (cost_call w h kind costs before n after) = CostCall w h kind costs before n after
 FigureHolds (lane_call w h picture from to before path r after path') =
-    LaneCall w h picture from to before path (lane_number r) (lane_width r) (lane_cells r) after path'
+    LaneCall w h picture from to before path (number_of r) (lane_width r) (lane_cells r) after path'
 FigureHolds (slice_call w h kind line budget picture before r after) =
-    SliceCall w h kind line budget picture before (slice_start r) (slice_number r) (slice_finished r) (slice_next r) after
+    SliceCall w h kind line budget picture before (number_of r) (slice_number r) (slice_finished r) (slice_next r) after
 FigureHolds (chain w h kind picture before slices) =
     Chain w h kind picture (budgets slices) 0 before (w + h) (left before slices)
-FigureHolds (opening_call s r) = OpeningCall s (opening_number r) (opening_a r) (opening_b r)
+FigureHolds (opening_call s r) = OpeningCall s (number_of r) (opening_a r) (opening_b r)
 FigureHolds (clear_call s squares clear n clear') = ClearCall s squares clear n clear'
-FigureHolds (changeover_call i u a b r) = ChangeoverCall i u a b (changeover_number r) (changeover_at r)
+FigureHolds (changeover_call i u a b r) = ChangeoverCall i u a b (number_of r) (changeover_at r)
 FigureHolds (bench_call bytes r output) =
-    BenchCall bytes (bench_number r) (bench_sites r) (bench_farthest r) (bench_cell r) × BenchPrints bytes output
-FigureHolds (millimetres_call d pitch r) = FigureCall d pitch (figure_number r) (figure_out r)
-FigureHolds (text_call d pitch before r after) = TextCall d pitch before (text_number r) (text_count r) after
+    BenchCall bytes (number_of r) (bench_sites r) (bench_farthest r) (bench_cell r) × BenchPrints bytes output
+FigureHolds (millimetres_call d pitch r) = FigureCall d pitch (number_of r) (figure_out r)
+FigureHolds (text_call d pitch before r after) = TextCall d pitch before (number_of r) (text_count r) after
 
 -- the one claim: every figure of a list holds
 abbrev pub AllHold : List Figure → Type 0
@@ -131,18 +136,18 @@ accepted =
     ∷ cost_call 3 2 1 (0 ∷ 4_294_967_295 ∷ 9 ∷ 4_294_967_295 ∷ 4_294_967_295 ∷ 2 ∷ []) (rubbish_for 6 16) 0
     (filled (0 ∷ 1 ∷ 2 ∷ 1 ∷ 2 ∷ 2 ∷ []) (0 ∷ 0 ∷ 0 ∷ 0 ∷ 0 ∷ 5 ∷ []) 16)
     -- 4×2, bore (1,0), lane 0 to 2: around the bore
-    ∷ lane_call 4 2 (0 ∷ 1 ∷ 0 ∷ 0 ∷ 0 ∷ 0 ∷ 0 ∷ 0 ∷ []) 0 2 (rubbish_for 8 20) (rubbish 8 74) (Found 1 5)
+    ∷ lane_call 4 2 (0 ∷ 1 ∷ 0 ∷ 0 ∷ 0 ∷ 0 ∷ 0 ∷ 0 ∷ []) 0 2 (rubbish_for 8 20) (rubbish 8 74) (found 1 5)
     (filled (1 ∷ 0 ∷ 1 ∷ 4 ∷ 2 ∷ 1 ∷ 2 ∷ 5 ∷ []) (replicate 8 1) 20)
     (0 ∷ 4 ∷ 5 ∷ 6 ∷ 2 ∷ 4_294_967_295 ∷ 4_294_967_295 ∷ 4_294_967_295 ∷ 74 ∷ [])
     -- pitch 0.5, radius 2.0: a = 32, b = 128; d = 16 clear, 15 not
-    ∷ opening_call good (Whole 32 128)
+    ∷ opening_call good (opened 32 128)
     ∷ clear_call good (16 ∷ 15 ∷ []) (8 ∷ 8 ∷ []) 0 (1 ∷ 0 ∷ [])
     -- changeover 0, 1, a = 2,000,000, b = 0: −1,000,000
-    ∷ changeover_call 0 1 2_000_000 0 (At (negsuc 999_999))
+    ∷ changeover_call 0 1 2_000_000 0 (Ok (negsuc 999_999))
     -- changeover 0, 1, a = 17,000,000, b = 0: −8,500,000
-    ∷ changeover_call 0 1 17_000_000 0 (At (negsuc 8_499_999))
+    ∷ changeover_call 0 1 17_000_000 0 (Ok (negsuc 8_499_999))
     -- the one record (0, 0): sites 1, farthest 7938, cell 4095 (`sample_text` has the bytes of the text)
-    ∷ bench_call (0 ∷ 0 ∷ 0 ∷ 0 ∷ []) (Read 1 7938 4095) (text 0 1 7938 4095)
+    ∷ bench_call (0 ∷ 0 ∷ 0 ∷ 0 ∷ []) (read 1 7938 4095) (text 0 1 7938 4095)
     ∷ []
 
 -- the texts 1.41406250, 0.00000000, 0.03125000 and 4194303.99609375
@@ -163,14 +168,14 @@ farthest_text =
 -- one and two cells of 1/64 mm; the greatest d with the greatest pitch. `fin s m e` is m·2^e.
 abbrev pub in_millimetres : List Figure
 in_millimetres =
-    millimetres_call 2 (fin false 1 (pos 0)) (Millimetres (fin false 181 (negsuc 6)))
-    ∷ millimetres_call 0 (fin false 1 (pos 6)) (Millimetres (fin false 0 (pos 0)))
-    ∷ millimetres_call 1 (fin false 1 (negsuc 5)) (Millimetres (fin false 1 (negsuc 5)))
-    ∷ millimetres_call 4_294_967_295 (fin false 1 (pos 6)) (Millimetres (fin false 1_073_741_823 (negsuc 7)))
-    ∷ text_call 2 (fin false 1 (pos 0)) (replicate 20 8) (Written 10) (root_of_two ++ replicate 10 8)
-    ∷ text_call 0 (fin false 1 (pos 6)) (replicate 21 8) (Written 10) (nothing_text ++ replicate 11 8)
-    ∷ text_call 4 (fin false 1 (negsuc 5)) (replicate 20 8) (Written 10) (two_fine ++ replicate 10 8)
-    ∷ text_call 4_294_967_295 (fin false 1 (pos 6)) (replicate 20 8) (Written 16) (farthest_text ++ replicate 4 8)
+    millimetres_call 2 (fin false 1 (pos 0)) (Ok (fin false 181 (negsuc 6)))
+    ∷ millimetres_call 0 (fin false 1 (pos 6)) (Ok (fin false 0 (pos 0)))
+    ∷ millimetres_call 1 (fin false 1 (negsuc 5)) (Ok (fin false 1 (negsuc 5)))
+    ∷ millimetres_call 4_294_967_295 (fin false 1 (pos 6)) (Ok (fin false 1_073_741_823 (negsuc 7)))
+    ∷ text_call 2 (fin false 1 (pos 0)) (replicate 20 8) (Ok 10) (root_of_two ++ replicate 10 8)
+    ∷ text_call 0 (fin false 1 (pos 6)) (replicate 21 8) (Ok 10) (nothing_text ++ replicate 11 8)
+    ∷ text_call 4 (fin false 1 (negsuc 5)) (replicate 20 8) (Ok 10) (two_fine ++ replicate 10 8)
+    ∷ text_call 4_294_967_295 (fin false 1 (pos 6)) (replicate 20 8) (Ok 16) (farthest_text ++ replicate 4 8)
     ∷ []
 
 -- buffers for a board of n cells and `tail` scratch words besides, each a word longer than it needs to be, by the scratch
@@ -187,38 +192,38 @@ abbrev pub begun : List Figure
 begun =
     -- 2×3, line 0, budget 1: the left column, bored at both ends, of which the upper is named on the tie. The bad bytes of
     -- the other column are not looked at, and no row is begun.
-    slice_call 2 3 0 0 1 (1 ∷ 2 ∷ 0 ∷ 2 ∷ 1 ∷ 2 ∷ []) (lent_words 6 10 (replicate 6 8)) (Worked 0 1 1)
+    slice_call 2 3 0 0 1 (1 ∷ 2 ∷ 0 ∷ 2 ∷ 1 ∷ 2 ∷ []) (lent_words 6 10 (replicate 6 8)) (worked None 1 1)
     (sliced (replicate 6 8) (replicate 6 8) 10 (0 ∷ 8 ∷ 0 ∷ 8 ∷ 2 ∷ 8 ∷ []))
     -- 3×2, line 4, the greatest budget: the lower row believes its words, though nothing is bored, and looks at no
     -- byte. (1,0) and (2,1) are named, and from the middle they are equally far.
     ∷ slice_call 3 2 0 4 4_294_967_295 (0 ∷ 0 ∷ 0 ∷ 0 ∷ 0 ∷ 2 ∷ [])
-    (lent_words 6 10 (8 ∷ 8 ∷ 8 ∷ 4_294_967_295 ∷ 0 ∷ 1 ∷ [])) (Worked 0 1 5)
+    (lent_words 6 10 (8 ∷ 8 ∷ 8 ∷ 4_294_967_295 ∷ 0 ∷ 1 ∷ [])) (worked None 1 5)
     (sliced (8 ∷ 8 ∷ 8 ∷ 2 ∷ 1 ∷ 0 ∷ []) (8 ∷ 8 ∷ 8 ∷ 1 ∷ 1 ∷ 5 ∷ []) 10 (8 ∷ 8 ∷ 8 ∷ 4_294_967_295 ∷ 0 ∷ 1 ∷ []))
     -- 2×2, line 0, budget 3: the left column, which has no bore, the right one, bored at (1,1), and the upper row by kind 2,
     -- and not the lower one
-    ∷ slice_call 2 2 2 0 3 (0 ∷ 0 ∷ 0 ∷ 1 ∷ []) (lent_words 4 8 (replicate 4 8)) (Worked 0 3 3)
+    ∷ slice_call 2 2 2 0 3 (0 ∷ 0 ∷ 0 ∷ 1 ∷ []) (lent_words 4 8 (replicate 4 8)) (worked None 3 3)
     (sliced (1 ∷ 1 ∷ 8 ∷ 8 ∷ []) (3 ∷ 3 ∷ 8 ∷ 8 ∷ []) 8 (4_294_967_295 ∷ 1 ∷ 4_294_967_295 ∷ 1 ∷ []))
     -- 2×2, line 1, budget 0; and line 4, which is W + H, with a budget: no line is looked at, and the tail is zero
-    ∷ slice_call 2 2 2 1 0 (2 ∷ 2 ∷ 2 ∷ 2 ∷ []) (lent_words 4 8 (replicate 4 8)) (Worked 0 0 1)
+    ∷ slice_call 2 2 2 1 0 (2 ∷ 2 ∷ 2 ∷ 2 ∷ []) (lent_words 4 8 (replicate 4 8)) (worked None 0 1)
     (sliced (replicate 4 8) (replicate 4 8) 8 (replicate 4 8))
-    ∷ slice_call 2 2 2 4 9 (2 ∷ 2 ∷ 2 ∷ 2 ∷ []) (lent_words 4 8 (replicate 4 8)) (Worked 0 0 4)
+    ∷ slice_call 2 2 2 4 9 (2 ∷ 2 ∷ 2 ∷ 2 ∷ []) (lent_words 4 8 (replicate 4 8)) (worked None 0 4)
     (sliced (replicate 4 8) (replicate 4 8) 8 (replicate 4 8))
     -- 3×2, line 0, budget 5: stopped by a bad byte in the second column, with the first finished
-    ∷ slice_call 3 2 0 0 5 (1 ∷ 0 ∷ 0 ∷ 0 ∷ 2 ∷ 0 ∷ []) (lent_words 6 10 (replicate 6 8)) (Worked 5 1 1)
+    ∷ slice_call 3 2 0 0 5 (1 ∷ 0 ∷ 0 ∷ 0 ∷ 2 ∷ 0 ∷ []) (lent_words 6 10 (replicate 6 8)) (worked (Some Cell) 1 1)
     (sliced (replicate 6 8) (replicate 6 8) 10 (0 ∷ 8 ∷ 8 ∷ 0 ∷ 8 ∷ 8 ∷ []))
     -- 3×2, line 3, budget 2, kind 1: the upper row finished, then stopped by a word H in the lower one
     ∷ slice_call 3 2 1 3 2 (replicate 6 0) (lent_words 6 10 (1 ∷ 4_294_967_295 ∷ 4_294_967_295 ∷ 0 ∷ 2 ∷ 1 ∷ []))
-    (Worked 13 1 4)
+    (worked (Some Word) 1 4)
     (sliced (1 ∷ 2 ∷ 3 ∷ 8 ∷ 8 ∷ 8 ∷ []) (3 ∷ 3 ∷ 3 ∷ 8 ∷ 8 ∷ 8 ∷ []) 10
     (1 ∷ 4_294_967_295 ∷ 4_294_967_295 ∷ 0 ∷ 2 ∷ 1 ∷ []))
     -- 2×2, line 3, budget 1: stopped by a row that is all marks
-    ∷ slice_call 2 2 0 3 1 (1 ∷ 1 ∷ 1 ∷ 1 ∷ []) (lent_words 4 8 (8 ∷ 8 ∷ 4_294_967_295 ∷ 4_294_967_295 ∷ [])) (Worked 6 0 3)
+    ∷ slice_call 2 2 0 3 1 (1 ∷ 1 ∷ 1 ∷ 1 ∷ []) (lent_words 4 8 (8 ∷ 8 ∷ 4_294_967_295 ∷ 4_294_967_295 ∷ [])) (worked (Some NoBore) 0 3)
     (sliced (replicate 4 8) (replicate 4 8) 8 (8 ∷ 8 ∷ 4_294_967_295 ∷ 4_294_967_295 ∷ []))
     -- 2×2, bore (1,1), kind 0: a chain of a column, the other with the upper row, and the lower row with budget to spare
     ∷ chain 2 2 0 (0 ∷ 0 ∷ 0 ∷ 1 ∷ []) (lent_words 4 8 (replicate 4 8))
-    (slice 1 1 1 (sliced (replicate 4 8) (replicate 4 8) 8 (4_294_967_295 ∷ 8 ∷ 4_294_967_295 ∷ 8 ∷ []))
-    ∷ slice 2 2 3 (sliced (2 ∷ 1 ∷ 8 ∷ 8 ∷ []) (3 ∷ 3 ∷ 8 ∷ 8 ∷ []) 8 (4_294_967_295 ∷ 1 ∷ 4_294_967_295 ∷ 1 ∷ []))
-    ∷ slice 5 1 4 (sliced (2 ∷ 1 ∷ 1 ∷ 0 ∷ []) (replicate 4 3) 8 (4_294_967_295 ∷ 1 ∷ 4_294_967_295 ∷ 1 ∷ []))
+    (link 1 1 1 (sliced (replicate 4 8) (replicate 4 8) 8 (4_294_967_295 ∷ 8 ∷ 4_294_967_295 ∷ 8 ∷ []))
+    ∷ link 2 2 3 (sliced (2 ∷ 1 ∷ 8 ∷ 8 ∷ []) (3 ∷ 3 ∷ 8 ∷ 8 ∷ []) 8 (4_294_967_295 ∷ 1 ∷ 4_294_967_295 ∷ 1 ∷ []))
+    ∷ link 5 1 4 (sliced (2 ∷ 1 ∷ 1 ∷ 0 ∷ []) (replicate 4 3) 8 (4_294_967_295 ∷ 1 ∷ 4_294_967_295 ∷ 1 ∷ []))
     ∷ [])
     ∷ []
 
@@ -227,15 +232,15 @@ abbrev pub refused : List Figure
 refused =
     picture_call 2 1 0 0 0 (0 ∷ 0 ∷ []) (rubbish_for 2 8) 6 (rubbish_for 2 8)
     ∷ cost_call 2 1 2 (0 ∷ 0 ∷ []) (rubbish_for 2 8) 2 (rubbish_for 2 8)
-    ∷ lane_call 2 1 (0 ∷ 1 ∷ []) 0 2 (rubbish_for 2 8) (rubbish 2 74) (NoLane 7) (rubbish_for 2 8) (rubbish 2 74)
-    ∷ slice_call 2 2 0 5 1 (1 ∷ 1 ∷ 1 ∷ 1 ∷ []) (rubbish_for 4 12) (NotBegun 12) (rubbish_for 4 12)
-    ∷ opening_call bad NotOpened
+    ∷ lane_call 2 1 (0 ∷ 1 ∷ []) 0 2 (rubbish_for 2 8) (rubbish 2 74) (Err Ends) (rubbish_for 2 8) (rubbish 2 74)
+    ∷ slice_call 2 2 0 5 1 (1 ∷ 1 ∷ 1 ∷ 1 ∷ []) (rubbish_for 4 12) (Err Line) (rubbish_for 4 12)
+    ∷ opening_call bad (Err BadSetting)
     ∷ clear_call bad (16 ∷ 15 ∷ []) (8 ∷ 9 ∷ []) 8 (8 ∷ 9 ∷ [])
-    ∷ changeover_call 1 1 0 0 NoChangeover
-    ∷ bench_call [] (NotRead 6) (text 6 0 0 0)
-    ∷ millimetres_call 2 nan NoFigure
-    ∷ text_call 2 nan (replicate 20 8) (NotWritten 8) (replicate 20 8)
-    ∷ text_call 2 nan (replicate 19 8) (NotWritten 4) (replicate 19 8)
+    ∷ changeover_call 1 1 0 0 (Err BadChangeover)
+    ∷ bench_call [] (Err NoBore) (text 6 0 0 0)
+    ∷ millimetres_call 2 nan (Err BadSetting)
+    ∷ text_call 2 nan (replicate 20 8) (Err BadSetting) (replicate 20 8)
+    ∷ text_call 2 nan (replicate 19 8) (Err ShortText) (replicate 19 8)
     ∷ []
 
 -- all of them

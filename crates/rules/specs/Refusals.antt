@@ -110,6 +110,10 @@ short_text bytes = ltb bytes text_bytes
 unfoldable pub bad_pitch : ℕ → Bool
 bad_pitch word = not (good_value word)
 
+-- the sides by themselves, which every entry on a board tests first
+abbrev pub sides_rows : ℕ → ℕ → List Row
+sides_rows w h = row 1 (bad_sides w h) ∷ []
+
 -- "Pictures test 1 to 6"
 abbrev pub picture_rows : ℕ → ℕ → ℕ → ℕ → ℕ → List ℕ → ℕ → ℕ → ℕ → List Row
 picture_rows w h kind d1 d2 picture distances sites scratch =

@@ -2,8 +2,12 @@
 // in `specs/`, each definition under the sentence of document 01, or 02, that it renders.
 #![tactic(auto)]
 
-ghost use Rattle.std.specs.Prelude.{◌≡◌};
 ghost use Rattle.rules.specs.Limits.{Stated};
+
+pub mod answers;
+pub mod kind;
+pub mod refusal;
+pub mod sized;
 
 // Document 02, E3: "sides to 2,048"
 pub const SIDE_LIMIT: u32 = 2_048;
@@ -81,13 +85,6 @@ pub fn limits() -> LimitTable
 // The kind whose maps are made by scans, and name no cell.
 pub const CHAMFER_KIND: u32 = 3;
 
-// A stored word as an index of a list.
-pub fn as_index(word: u32) -> usize
-    ensures { result ≡ word }
-{
-    word as usize
-}
-
 // "A setting is two f32 values, pitch and radius, in millimetres."
 #[repr(C)]
 #[derive(Clone, Copy)]
@@ -96,64 +93,13 @@ pub struct Setting {
     pub radius: f32,
 }
 
-// One of the eight neighbours of document 003: row step, column step, and 1 for the weight d1 or 2 for d2.
-#[derive(Clone, Copy)]
-pub struct Step(pub i32, pub i32, pub u32);
-
-// The opening of a setting: the whole numbers of pitch and radius, or refusal 8.
-#[derive(Clone, Copy)]
-pub enum OpeningAnswer {
-    Whole { a: u32, b: u32 },
-    Refused,
+// The weight that a step of the table chooses: d1 or d2.
+#[derive(Clone, Copy, Debug, PartialEq, Eq)]
+pub enum Choice {
+    D1,
+    D2,
 }
 
-// The changeover, or refusal 9.
+// One of the eight neighbours of document 003: row step, column step, and choice of weight.
 #[derive(Clone, Copy)]
-pub enum ChangeoverAnswer {
-    At(i32),
-    Refused,
-}
-
-// A lane's width and number of cells, or the refusal's number.
-#[derive(Clone, Copy)]
-pub enum LaneAnswer {
-    Found { width: u32, cells: u32 },
-    Refused(u32),
-}
-
-// The three numbers of a bench file, or the refusal's number.
-#[derive(Clone, Copy)]
-pub enum BenchAnswer {
-    Read {
-        sites: u32,
-        farthest: u32,
-        cell: u32,
-    },
-    Refused(u32),
-}
-
-// A slice of a map: the number that stopped it, 0 for none, how many lines it finished, and the next line; or the number of
-// the refusal at its start.
-#[derive(Clone, Copy)]
-pub enum SliceAnswer {
-    Worked {
-        number: u32,
-        finished: u32,
-        next: u32,
-    },
-    Refused(u32),
-}
-
-// A distance in millimetres, or refusal 8.
-#[derive(Clone, Copy)]
-pub enum FigureAnswer {
-    Millimetres(f64),
-    Refused,
-}
-
-// How long the text of a distance in millimetres is, or the refusal's number.
-#[derive(Clone, Copy)]
-pub enum TextAnswer {
-    Written(u32),
-    Refused(u32),
-}
+pub struct Step(pub i32, pub i32, pub Choice);

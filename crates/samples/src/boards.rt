@@ -1,9 +1,10 @@
 // Pictures through the picture entry. The words lent start as marks, so that one that is left out shows.
 ghost use Rattle.std.specs.Prelude.{◌<◌};
 
-use crate::text::{print, print_number, print_refusal, print_rows, print_word};
+use crate::text::{print_answer, print_rows};
 use maps::picture_map;
 use rules::MARK;
+use rules::refusal::Refusal;
 use std::io;
 
 // The cells of the largest board here, 512 by 512. A board of 2,048 by 2,048 has no room on a stack; `examples/board.c` and
@@ -16,7 +17,7 @@ const LINE: usize = 2_049;
 // Its scratch words: 2,049 + 2·2,049 + 2.
 const LINE_SCRATCH: usize = 6_149;
 
-// What is asked of a picture.
+// What is asked of a picture: numbers, as its entry takes them.
 #[derive(Clone, Copy)]
 pub struct Question {
     pub w: u32,
@@ -42,93 +43,75 @@ pub fn chamfer_board(w: u32, h: u32, d1: u32, d2: u32) -> Question {
 // What is answered, and the words of one cell.
 #[derive(Clone, Copy)]
 struct Found {
-    refusal: u32,
+    answer: Result<(), Refusal>,
     distance: u32,
     site: u32,
 }
 
-// The map of a picture, in the words lent.
-fn map_of(
-    question: Question,
-    picture: &[u8],
-    distances: &mut [u32],
-    sites: &mut [u32],
-    scratch: &mut [u32],
-) -> u32 {
-    picture_map(
-        question.w,
-        question.h,
-        question.kind,
-        question.d1,
-        question.d2,
-        picture,
-        distances,
-        sites,
-        scratch,
-    )
-}
+impl Question {
+    // The map of a picture, in the words lent.
+    fn map(
+        self,
+        picture: &[u8],
+        distances: &mut [u32],
+        sites: &mut [u32],
+        scratch: &mut [u32],
+    ) -> Result<(), Refusal> {
+        picture_map(
+            self.w, self.h, self.kind, self.d1, self.d2, picture, distances, sites, scratch,
+        )
+    }
 
-// One cell of a picture's map, in words of its own.
-fn look(question: Question, picture: &[u8], cell: usize) -> Found
-    requires { cell < 2_049 }
-{
-    let mut distances = [MARK; LINE];
-    let mut sites = [MARK; LINE];
-    let mut scratch = [MARK; LINE_SCRATCH];
-    let refusal = map_of(question, picture, &mut distances, &mut sites, &mut scratch);
-    Found {
-        refusal,
-        distance: distances[cell],
-        site: sites[cell],
+    // One cell of a picture's map, in words of its own.
+    fn look(self, picture: &[u8], cell: usize) -> Found
+        requires { cell < 2_049 }
+    {
+        let mut distances = [MARK; LINE];
+        let mut sites = [MARK; LINE];
+        let mut scratch = [MARK; LINE_SCRATCH];
+        let answer = self.map(picture, &mut distances, &mut sites, &mut scratch);
+        Found {
+            answer,
+            distance: distances[cell],
+            site: sites[cell],
+        }
     }
 }
 
-// ", cell 1: distance 1, site 0"
-fn print_cell(rt: &impl Print, cell: usize, distance: u32, site: u32) -> io::Result<()> {
-    print(rt, b", cell ")?;
-    print_number(rt, cell as u64)?;
-    print(rt, b": distance ")?;
-    print_word(rt, distance)?;
-    print(rt, b", site ")?;
-    print_word(rt, site)
-}
-
-// ": good" or ": refusal 3"
-fn print_answer(rt: &impl Print, refusal: u32) -> io::Result<()> {
-    print(rt, b": ")?;
-    if refusal == 0 {
-        print(rt, b"good")
-    } else {
-        print_refusal(rt, refusal)
-    }
+// "1 by 1, bored, cell 1: distance 1, site 0"
+fn print_cell(
+    rt: &impl Print,
+    name: &str,
+    cell: usize,
+    distance: u32,
+    site: u32,
+) -> io::Result<()> {
+    println!(rt; "{name}, cell {cell}: distance {distance}, site {site}")
 }
 
 // A board, and one cell of its map.
 pub fn show_cell(
     rt: &impl Print,
-    name: &[u8],
+    name: &str,
     question: Question,
     picture: &[u8],
     cell: usize,
 ) -> io::Result<()>
     requires { cell < 2_049 }
 {
-    print(rt, name)?;
-    let found = look(question, picture, cell);
-    print_cell(rt, cell, found.distance, found.site)?;
-    print(rt, b"\n")
+    let found = question.look(picture, cell);
+    print_cell(rt, name, cell, found.distance, found.site)
 }
 
 // A board, and whether its map is made.
 pub fn show_answer(
     rt: &impl Print,
-    name: &[u8],
+    name: &str,
     question: Question,
     picture: &[u8],
 ) -> io::Result<()> {
-    print(rt, name)?;
-    print_answer(rt, look(question, picture, 0).refusal)?;
-    print(rt, b"\n")
+    print!(rt; "{name}")?;
+    print_answer(rt, question.look(picture, 0).answer)
 }
 
 // The last cell of the largest board here.
@@ -138,11 +121,14 @@ pub fn show_largest(rt: &impl Print) -> io::Result<()> {
     let mut distances = [MARK; CELLS];
     let mut sites = [MARK; CELLS];
     let mut scratch = [MARK; SCRATCH];
-    let asked = board(512, 512, 0);
-    map_of(asked, &picture, &mut distances, &mut sites, &mut scratch);
-    print(rt, b"512 by 512, bore 0")?;
-    print_cell(rt, 262_143, distances[262_143], sites[262_143])?;
-    print(rt, b"\n")
+    let _ = board(512, 512, 0).map(&picture, &mut distances, &mut sites, &mut scratch);
+    print_cell(
+        rt,
+        "512 by 512, bore 0",
+        262_143,
+        distances[262_143],
+        sites[262_143],
+    )
 }
 
 // The whole map of document 003's picture.
@@ -154,8 +140,8 @@ pub fn show_003(rt: &impl Print) -> io::Result<()> {
     let mut sites = [MARK; 24];
     let mut scratch = [MARK; 44];
     let asked = chamfer_board(4, 6, 3, 4);
-    map_of(asked, &picture, &mut distances, &mut sites, &mut scratch);
-    print(rt, b"weights 3 and 4, 4 by 6, bores 6 and 17:")?;
+    let _ = asked.map(&picture, &mut distances, &mut sites, &mut scratch);
+    print!(rt; "weights 3 and 4, 4 by 6, bores 6 and 17:")?;
     print_rows(rt, 4, &distances)?;
-    print(rt, b"\n")
+    println!(rt; "")
 }

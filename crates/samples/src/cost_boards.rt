@@ -1,24 +1,22 @@
 // Costs through the cost entry. The words lent start as marks, so that one that is left out shows.
-use crate::text::{print, print_refusal, print_rows};
+use crate::text::{print_answer, print_rows};
 use costs::cost_map;
 use rules::MARK;
 use std::io;
 
 // A line of five costs, and its map.
-pub fn show_costs(rt: &impl Print, name: &[u8], kind: u32, costs: &[u32]) -> io::Result<()> {
+pub fn show_costs(rt: &impl Print, name: &str, kind: u32, costs: &[u32]) -> io::Result<()> {
     let mut distances = [MARK; 5];
     let mut sites = [MARK; 5];
     let mut scratch = [MARK; 17];
-    let refusal = cost_map(5, 1, kind, costs, &mut distances, &mut sites, &mut scratch);
-    print(rt, name)?;
-    if refusal != 0 {
-        print(rt, b": ")?;
-        print_refusal(rt, refusal)?;
-        return print(rt, b"\n");
+    let answer = cost_map(5, 1, kind, costs, &mut distances, &mut sites, &mut scratch);
+    print!(rt; "{name}")?;
+    if answer.is_err() {
+        return print_answer(rt, answer);
     }
-    print(rt, b":")?;
+    print!(rt; ":")?;
     print_rows(rt, 5, &distances)?;
-    print(rt, b", sites")?;
+    print!(rt; ", sites")?;
     print_rows(rt, 5, &sites)?;
-    print(rt, b"\n")
+    println!(rt; "")
 }

@@ -1,28 +1,15 @@
 // Lanes through the lane entry. The path starts as zeros, so that a mark that is left out shows, and a word beyond the board
 // that is written.
-use crate::text::{print, print_refusal, print_rows, print_word};
+use crate::text::print_rows;
 use lane::widest;
-use rules::{LaneAnswer, MARK};
+use rules::MARK;
 use std::io;
 
-// ": width 1, cells 5" or ": refusal 7"
-fn print_lane(rt: &impl Print, answer: LaneAnswer) -> io::Result<()> {
-    print(rt, b": ")?;
-    match answer {
-        LaneAnswer::Found { width, cells } => {
-            print(rt, b"width ")?;
-            print_word(rt, width)?;
-            print(rt, b", cells ")?;
-            print_word(rt, cells)
-        }
-        LaneAnswer::Refused(number) => print_refusal(rt, number),
-    }
-}
-
-// A board of at most nine cells, and the lane between two of them.
+// A board of at most nine cells, and the lane between two of them: "3 by 3: width 1, cells 5, path 0 1 2 5 8" or "3 by 3:
+// refusal 7, path 0 0 0".
 pub fn show_lane(
     rt: &impl Print,
-    name: &[u8],
+    name: &str,
     w: u32,
     h: u32,
     picture: &[u8],
@@ -44,9 +31,11 @@ pub fn show_lane(
         &mut scratch,
         &mut path,
     );
-    print(rt, name)?;
-    print_lane(rt, answer)?;
-    print(rt, b", path")?;
+    match answer {
+        Ok(course) => print!(rt; "{name}: width {}, cells {}", course.width, course.cells),
+        Err(refusal) => print!(rt; "{name}: {refusal}"),
+    }?;
+    print!(rt; ", path")?;
     print_rows(rt, 9, &path)?;
-    print(rt, b"\n")
+    println!(rt; "")
 }

@@ -10,38 +10,37 @@ use native.Mathlib.Omega.{arith}
 use lib.ListN.{length, get_or}
 use borrow.Rule.Slice.PartMut.{put_mid, mid_of, put_same}
 use Rattle.rules.specs.Limits.{mark}
-use Rattle.rules.specs.Board.{cell, away}
-use Rattle.rules.specs.Measures.{HasParts}
+use Rattle.rules.specs.Answers.{kind_number}
+use Rattle.rules.specs.Board.{Sides, cell, away}
 use Rattle.rules.specs.Refusals.{answer}
+use Rattle.rules.specs.declared.kind.LineKind.{LineKind}
 use Rattle.rules.specs.Slices.{word_at, row_rows, Among, BelievedWord}
 use Rattle.rules.proofs.Board.{row_ends, cell_in}
 use Rattle.rules.proofs.Columns.{row_word_same}
+use Rattle.rules.proofs.Measures.{has_parts}
 use Rattle.rules.proofs.Parts.{beyond_both}
-use Rattle.rules.proofs.RowParts.{put_here, put_elsewhere, put_beyond}
+use Rattle.rules.proofs.RowParts.{row_part_long, put_here, put_elsewhere, put_beyond}
 use Rattle.rules.proofs.SliceRows.{row_passes, row_number_same}
 use Rattle.rules.proofs.Slices.{row_by_parts}
-use Rattle.gauge.specs.declared.Gauge.{Gauge}
-use Rattle.gauge.specs.Line.{Measuring}
 use Rattle.rows.specs.Row.{Believed}
 use Rattle.slice_lines.specs.Lines.{RowPlace, RowOnce, RowsWritten, RowsDone}
 
 -- what the row line asks, of a row that can be done
-pub row_believed : {g : Gauge} {w h y at : ℕ} {squares scratch : List ℕ} → Measuring g squares
-    → RowPlace w h y at (length scratch) → 0 ≡ answer (row_rows w h scratch y) → Believed g squares at (w * h) scratch w
-row_believed {w = w} {h} {y} {at} {scratch = scratch} measuring P can =
-    let (named, one) = row_passes w h scratch y (sym can) in
+pub row_believed : {w h y at : ℕ} {scratch : List ℕ} → Sides w h → RowPlace w h y at (length scratch)
+    → answer (row_rows w h scratch y) ≡ 0 → Believed at (w * h) scratch w
+row_believed {w} {h} {y} {at} {scratch} S P can =
+    let (named, one) = row_passes w h scratch y can in
     let (i₀, i₀_in, i₀_named) = one in
     let same : (i : ℕ) → get_or scratch (at + i) 0 ≡ word_at w scratch i y = λ i. ap (λ n. get_or scratch (n + i) 0) P.at_is in
     record {
-      measuring = measuring;
-      from = P.sides.width_from;
-      to = P.sides.width_to;
+      from = S.width_from;
+      to = S.width_to;
       before_tail = row_ends w P.at_is P.row_in;
       room = P.room;
       named =
           λ i l.
           by_cases (ℕ_discrete (word_at w scratch i y) mark) (λ e. inr (same i ∙ e))
-          (λ n. inl (omega (arith, same i, named i l n, P.sides.height_to)));
+          (λ n. inl (omega (arith, same i, named i l n, S.height_to)));
       i₀ = i₀;
       i₀_in = i₀_in;
       i₀_named = λ e. i₀_named (sym (same i₀) ∙ e);
@@ -76,21 +75,21 @@ rows_none scratch d s =
       sites_written = written_none s;
     }
 
-module _ {g : Gauge} {w h from y at : ℕ} {before after d d' s s' : List ℕ} (parts : HasParts g.kind)
-    (R : RowsDone g.kind w h from y before after d d' s s') (P : RowPlace w h y at (length after)) where
+module _ (kind : LineKind) {w h from y at : ℕ} {before after d d' s s' : List ℕ}
+    (R : RowsDone (kind_number kind) w h from y before after d d' s s') (at_is : at ≡ y * w) (row_in : y < h) where
   -- the row finds its words as they were
   kept : (x : ℕ) → x < w → word_at w after x y ≡ word_at w before x y
-  kept x l = R.cells_kept (cell w x y) (cell_in l P.row_in)
+  kept x l = R.cells_kept (cell w x y) (cell_in l row_in)
 
   module _ {after' drow drow' srow srow' : List ℕ} {number : ℕ}
-      (O : RowOnce g w h y at after after' drow drow' srow srow' number) where
+      (O : RowOnce kind w h y at after after' drow drow' srow srow' number) where
     -- so its number is that of the words as they were
     pub once_number : number ≡ answer (row_rows w h before y)
     once_number = O.number_is ∙ row_number_same w h after before y kept
 
     -- where it stops, the rows that are done stay
     pub rows_stay : number ≢ 0 → drow ≡ mid_of at (at + w - at) d' → srow ≡ mid_of at (at + w - at) s'
-        → RowsDone g.kind w h from y before after' d (put_mid at (at + w - at) d' drow') s
+        → RowsDone (kind_number kind) w h from y before after' d (put_mid at (at + w - at) d' drow') s
         (put_mid at (at + w - at) s' srow')
     rows_stay some d-part s-part =
         let (same, d_same, s_same) = O.stopped some in
@@ -98,11 +97,12 @@ module _ {g : Gauge} {w h from y at : ℕ} {before after d d' s s' : List ℕ} (
         ap (put_mid at (at + w - at) d') (d_same ∙ d-part) ∙ put_same at (at + w - at) d' in
         let s_back : put_mid at (at + w - at) s' srow' ≡ s' =
         ap (put_mid at (at + w - at) s') (s_same ∙ s-part) ∙ put_same at (at + w - at) s' in
-        subst₂ (λ a b. RowsDone g.kind w h from y before after' d a s b) (sym d_back) (sym s_back)
-        (subst (λ a. RowsDone g.kind w h from y before a d d' s s') (sym same) R)
+        subst₂ (λ a b. RowsDone (kind_number kind) w h from y before after' d a s b) (sym d_back) (sym s_back)
+        (subst (λ a. RowsDone (kind_number kind) w h from y before a d d' s s') (sym same) R)
 
     module _ (is : number ≡ 0) (l : from ≤ y) (d_long : w * h ≤ length d) (s_long : w * h ≤ length s)
-        (drow_long : length drow' ≡ w) (srow_long : length srow' ≡ w) where
+        (drow_same : length drow' ≡ length (mid_of at (at + w - at) d'))
+        (srow_same : length srow' ≡ length (mid_of at (at + w - at) s')) where
       abbrev d'' : List ℕ
       d'' = put_mid at (at + w - at) d' drow'
 
@@ -115,26 +115,33 @@ module _ {g : Gauge} {w h from y at : ℕ} {before after d d' s s' : List ℕ} (
       s_room : w * h ≤ length s'
       s_room = omega (arith, R.sites_written.beyond.as_long)
 
+      -- the rows come back as long as a row
+      drow_long : length drow' ≡ w
+      drow_long = drow_same ∙ row_part_long d' at_is row_in d_room
+
+      srow_long : length srow' ≡ w
+      srow_long = srow_same ∙ row_part_long s' at_is row_in s_room
+
       -- this row
-      here : (x : ℕ) → x < w → BelievedWord g.kind w before x y (get_or d'' (cell w x y) 0) (get_or s'' (cell w x y) 0)
+      here : (x : ℕ) → x < w → BelievedWord (kind_number kind) w before x y (get_or d'' (cell w x y) 0) (get_or s'' (cell w x y) 0)
       here x m =
           let same : (i : ℕ) → i < w → get_or after (at + i) 0 ≡ word_at w before i y =
-          λ i n. ap (λ k. get_or after (k + i) 0) P.at_is ∙ kept i n in
-          subst₂ (λ a b. BelievedWord g.kind w before x y a b)
-          (sym (put_here d' drow' P.at_is P.row_in d_room drow_long m))
-          (sym (put_here s' srow' P.at_is P.row_in s_room srow_long m))
-          (row_word_same same (λ i n o. ap (away y) (same i n)) (row_by_parts y parts ((O.made is).row x m)))
+          λ i n. ap (λ k. get_or after (k + i) 0) at_is ∙ kept i n in
+          subst₂ (λ a b. BelievedWord (kind_number kind) w before x y a b)
+          (sym (put_here d' drow' at_is row_in d_room drow_long m))
+          (sym (put_here s' srow' at_is row_in s_room srow_long m))
+          (row_word_same same (λ i n o. ap (away y) (same i n)) (row_by_parts y (has_parts kind) ((O.made is).row x m)))
 
       -- an earlier row
       earlier : (x k : ℕ) → x < w → k ≢ y → Among from y k
-          → BelievedWord g.kind w before x k (get_or d'' (cell w x k) 0) (get_or s'' (cell w x k) 0)
+          → BelievedWord (kind_number kind) w before x k (get_or d'' (cell w x k) 0) (get_or s'' (cell w x k) 0)
       earlier x k m other a =
-          subst₂ (λ a b. BelievedWord g.kind w before x k a b)
-          (sym (put_elsewhere d' drow' P.at_is P.row_in d_room drow_long m other))
-          (sym (put_elsewhere s' srow' P.at_is P.row_in s_room srow_long m other)) (R.words x k m a)
+          subst₂ (λ a b. BelievedWord (kind_number kind) w before x k a b)
+          (sym (put_elsewhere d' drow' at_is row_in d_room drow_long m other))
+          (sym (put_elsewhere s' srow' at_is row_in s_room srow_long m other)) (R.words x k m a)
 
       -- one row line more
-      pub rows_more : RowsDone g.kind w h from (y + 1) before after' d d'' s s''
+      pub rows_more : RowsDone (kind_number kind) w h from (y + 1) before after' d d'' s s''
       rows_more =
           record {
             none_stops =
@@ -145,10 +152,10 @@ module _ {g : Gauge} {w h from y at : ℕ} {before after d d' s s' : List ℕ} (
             words =
                 λ x k m a.
                 by_cases (ℕ_discrete k y)
-                (λ e. subst (λ j. BelievedWord g.kind w before x j (get_or d'' (cell w x j) 0) (get_or s'' (cell w x j) 0)) (sym e)
+                (λ e. subst (λ j. BelievedWord (kind_number kind) w before x j (get_or d'' (cell w x j) 0) (get_or s'' (cell w x j) 0)) (sym e)
                 (here x m)) (λ other. earlier x k m other (a.0, omega arith));
             cells_kept = λ k m. (O.made is).used.kept k m ∙ R.cells_kept k m;
             scratch_beyond = beyond_both R.scratch_beyond (O.made is).used.beyond;
-            distances_written = written_more d' drow' P.at_is P.row_in l d_long drow_long R.distances_written;
-            sites_written = written_more s' srow' P.at_is P.row_in l s_long srow_long R.sites_written;
+            distances_written = written_more d' drow' at_is row_in l d_long drow_long R.distances_written;
+            sites_written = written_more s' srow' at_is row_in l s_long srow_long R.sites_written;
           }

@@ -1,23 +1,28 @@
 -- Which lines can be done. A column of a band without a bad byte can; the first one with a bad byte, found by going from
 -- column to column, stops with 5. A row's words are judged by one number, the most rows that one of them asks for: a word
 -- asks for more rows than the board has exactly where it names none of them and is no mark, and all are marks exactly where
--- none is asked for. Assumes nothing.
-use mathlib.Core.Path.{◌≡◌, refl, subst}
+-- none is asked for. That number is the greatest of what the words ask for, as the test of bytes has it of bytes. What stops
+-- a line has a number above 0. Assumes nothing.
+use mathlib.Core.Path.{◌≡◌, sym, ◌∙◌, subst}
 use mathlib.Core.Logic.{◌≢◌, by_cases}
 use mathlib.Core.Bool.{Bool, true, false}
 use mathlib.Core.List.{List}
-use Prim.Native.Nat.{ℕ, ◌+◌, ◌*◌, ◌≤◌, ◌<◌, max}
+use Prim.Native.Nat.{ℕ, ◌+◌, ◌-◌, ◌*◌, ◌≤◌, ◌<◌, max}
 use native.Mathlib.Nat.{le_refl}
-use native.Mathlib.Decide.{dec_le, ℕ_discrete}
+use native.Mathlib.Decide.{ℕ_discrete}
 use native.Mathlib.Omega.{arith}
-use lib.ListN.{get_or}
-use borrow.Author.Count.{below_more}
+use lib.ListN.{length, get_or, take, drop}
 use borrow.Author.Tests.{eq-eqb, ne_eqb}
 use Rattle.rules.specs.Limits.{mark}
 use Rattle.rules.specs.Refusals.{answer}
 use Rattle.rules.specs.Slices.{word_at, column_rows, row_rows}
 use Rattle.rules.proofs.SliceRows.{column_0, column_5, row_0, row_6, row_13}
-use Rattle.columns.specs.Bands.{Swept, BadBand}
+use Rattle.std.specs.List.{fold}
+use Rattle.std.proofs.Common.{map}
+use Rattle.std.proofs.lemmas.List.{length-map, take-map, drop-map, get_or-map}
+use Rattle.columns.specs.Bands.{BadBand}
+use Rattle.columns.specs.Rows.{Most}
+use Rattle.columns.proofs.Testing.{most_is}
 use Rattle.slice_lines.specs.Lines.{FirstBad, rows_needed, MostNamed}
 
 module _ {w h from : ℕ} {picture : List ℕ} where
@@ -28,16 +33,6 @@ module _ {w h from : ℕ} {picture : List ℕ} where
         from_in = l;
         to_in = le_refl to;
         none_stops = λ x m n. column_0 w h picture x (λ y o. B.passes is x y m n o);
-        stops = λ m. absurd (omega arith);
-      }
-
-  -- before the first column none stops
-  pub no_column : FirstBad w h from from picture from
-  no_column =
-      record {
-        from_in = le_refl from;
-        to_in = le_refl from;
-        none_stops = λ x m n. absurd (omega arith);
         stops = λ m. absurd (omega arith);
       }
 
@@ -68,46 +63,35 @@ module _ {w h from : ℕ} {picture : List ℕ} where
           stops = λ _. subst (λ (k : ℕ). answer (column_rows w h picture k) ≡ 5) e (column_5 w h picture x' y o far);
         }
 
-    -- and at the band's end none stops
-    pub column_end : {to : ℕ} → x ≡ to → FirstBad w h from to picture to
-    column_end e = subst (λ (k : ℕ). FirstBad w h from k picture k) e F
-
--- a band of no column is swept as it is
-pub swept_none : {w h a b : ℕ} {picture words : List ℕ} → a ≡ b → Swept w h a b picture words words
-swept_none e = record { words = λ x y l m n. absurd (omega arith); others = λ k out. refl; as_long = refl }
-
 -- the mark asks for no row, and a word that names one for one more than its number
-pub needs_none : (word : ℕ) → word ≡ mark → rows_needed word ≡ 0
+needs_none : (word : ℕ) → word ≡ mark → rows_needed word ≡ 0
 needs_none word e = rw (eq-eqb word mark e)
 
-pub needs_more : (word : ℕ) → word ≢ mark → rows_needed word ≡ word + 1
+needs_more : (word : ℕ) → word ≢ mark → rows_needed word ≡ word + 1
 needs_more word n = rw (ne_eqb word mark n)
 
 -- a word that asks for none is the mark
-pub needs_mark : (word : ℕ) → rows_needed word ≡ 0 → word ≡ mark
+needs_mark : (word : ℕ) → rows_needed word ≡ 0 → word ≡ mark
 needs_mark word e = by_cases (ℕ_discrete word mark) (λ m. m) (λ n. absurd (omega (arith, needs_more word n)))
 
 -- a word that asks for some is not
-pub needs_row : (word : ℕ) → 0 < rows_needed word → word ≢ mark
+needs_row : (word : ℕ) → 0 < rows_needed word → word ≢ mark
 needs_row word l e = omega (arith, needs_none word e)
 
-module _ {start : ℕ} {words : List ℕ} where
-  -- of no words the most is 0
-  pub most_start : MostNamed start 0 words 0
-  most_start = record { most = λ i l. absurd (omega arith); attained = λ l. absurd (omega arith) }
-
-  -- one word more
-  pub most_more : {i most r : ℕ} → MostNamed start i words most → r ≡ max most (rows_needed (get_or words (start + i) 0))
-      → MostNamed start (i + 1) words r
-  most_more {i} {most} {r} M e =
-      record {
-        most =
-            below_more (λ k. rows_needed (get_or words (start + k) 0) ≤ r) i (λ k l. omega (arith, M.most k l)) (omega arith);
-        attained =
-            λ some.
-            by_cases (dec_le most (rows_needed (get_or words (start + i) 0))) (λ l. (i, omega arith, omega arith))
-            (λ far. let t = M.attained (omega arith) in (t.0, omega (arith, t.1), omega (arith, t.2)));
-      }
+-- the greatest of what the words ask for is the most that one of them asks for
+pub most_named : {start w r : ℕ} {words : List ℕ} → start + w ≤ length words
+    → r ≡ fold max 0 (map rows_needed (take (start + w - start) (drop start words))) → MostNamed start w words r
+most_named {start} {w} {r} {words} fits folded =
+    let at : start + 0 ≡ start = omega arith in
+    let asked : List ℕ = map rows_needed words in
+    let M : Most start 0 w asked r =
+    most_is (rw length-map fits) (rw (at, drop-map, take-map) folded) in
+    let needs : (i : ℕ) → i < w → get_or asked (start + i) 0 ≡ rows_needed (get_or words (start + i) 0) =
+    λ i l. get_or-map rows_needed words (start + i) 0 0 (omega arith) in
+    record {
+      most = λ i l. omega (arith, M.greatest i (omega arith) l, needs i l);
+      attained = λ some. let (i, from, l, is) = M.attained some in (i, l, sym (needs i l) ∙ is);
+    }
 
 module _ {w start : ℕ} {words : List ℕ} {most : ℕ} (M : MostNamed start w words most) (h y : ℕ) (at : start ≡ y * w) where
   -- more rows than there are: 13

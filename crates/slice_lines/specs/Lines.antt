@@ -1,12 +1,17 @@
 -- What the column lines of a slice say, and its row lines. Assumes nothing.
-use Rattle.std.specs.Prelude.{◌≡◌, ◌≢◌, cond, List, ℕ, ◌+◌, ◌*◌, ◌≤◌, ◌<◌, eqb, get_or}
+use Rattle.std.specs.Prelude.{◌≡◌, ◌≢◌, cond, List, ℕ, ◌+◌, ◌*◌, ◌≤◌, ◌<◌, eqb, get_or, Option, Some, None}
 use Rattle.rules.specs.Limits.{mark}
-use Rattle.rules.specs.Board.{Sides, cell}
+use Rattle.rules.specs.Board.{cell}
 use Rattle.rules.specs.Refusals.{answer}
 use Rattle.rules.specs.Calls.{Beyond}
 use Rattle.rules.specs.Slices.{column_rows, row_rows, Among, BelievedWord}
-use Rattle.gauge.specs.declared.Gauge.{Gauge}
+use Rattle.rules.specs.declared.kind.LineKind.{LineKind}
 use Rattle.rows.specs.Row.{RowMade}
+
+-- how far a band is swept that ends at `to`: up to its first bad column, if it has one
+abbrev pub reached : ℕ → Option ℕ → ℕ
+reached to None = to
+reached to (Some x) = x
 
 -- the first column of the band that stops with 5, or the band's end where none does
 pub record FirstBad (w h from to : ℕ) (picture : List ℕ) (end : ℕ) : Type 0 where
@@ -26,16 +31,15 @@ pub record MostNamed (start w : ℕ) (words : List ℕ) (r : ℕ) : Type 0 where
 
 -- row y of a board, which begins at `at`: its words stand in the scratch, and the 2w words after the cells' words are free
 pub record RowPlace (w h y at scratch : ℕ) : Type 0 where
-  pub sides : Sides w h
   pub row_in : y < h
   pub at_is : at ≡ y * w
   pub room : w * h + w + w ≤ scratch
 
 -- one row line: it answers the row's number, and is made where that is 0
-pub record RowOnce (g : Gauge) (w h y at : ℕ) (before after d d' s s' : List ℕ) (number : ℕ) : Type 0 where
+pub record RowOnce (kind : LineKind) (w h y at : ℕ) (before after d d' s s' : List ℕ) (number : ℕ) : Type 0 where
   pub number_is : number ≡ answer (row_rows w h before y)
   pub stopped : number ≢ 0 → (after ≡ before) × (d' ≡ d) × (s' ≡ s)
-  pub made : number ≡ 0 → RowMade g y at (w * h) w before after d' s'
+  pub made : number ≡ 0 → RowMade kind y at (w * h) w before after d' s'
 
 -- a list of which no words were written but those of the rows from..y
 pub record RowsWritten (w h from y : ℕ) (before after : List ℕ) : Type 0 where

@@ -1,47 +1,53 @@
 // The column lines of a slice. They are swept as one band, row by row, so that memory is read in order.
-ghost use Rattle.std.specs.Prelude.{◌*◌, ◌≤◌, ◌≡◌, length};
-ghost use Rattle.columns.specs.Bands.{Band, Swept};
-ghost use Rattle.slice_lines.specs.Lines.{FirstBad};
+ghost use Rattle.std.specs.Prelude.{◌*◌, ◌≤◌, ◌<◌, ◌≡◌, length, IfSome};
+ghost use Rattle.columns.specs.Bands.{Swept};
+ghost use Rattle.slice_lines.specs.Lines.{reached, FirstBad};
 
-use columns::{bad_band, sweep};
+use columns::{Band, bad_band, sweep};
 
-// The first column of the band with a bad byte, or `to` where none has one. The band is tested whole first: a good one, as
-// nearly all are, is read once and in order.
-fn first_bad(w: usize, h: usize, from: usize, to: usize, picture: &[u8]) -> usize
-    requires { Band w h from to × (length picture.now ≡ w * h) }
-    ensures { FirstBad w h from to picture.now result }
+// The first column of the band with a bad byte. The band is tested whole first: a good one, as nearly all are, is read once
+// and in order.
+fn first_bad(band: Band, picture: &[u8]) -> Option<usize>
+    requires { length picture.now ≡ band.board.w * band.board.h }
+    ensures first { FirstBad band.board.w band.board.h band.from band.to picture.now (reached band.to result) }
+    ensures inside { IfSome result (λ x. x < band.to) }
 {
-    if !bad_band(w, h, from, to, picture) {
-        return to;
+    if !bad_band(band, picture) {
+        return None;
     }
-    let mut x = from;
-    while x < to {
-        if bad_band(w, h, x, x + 1, picture) {
-            return x;
+    for x in band.from..band.to {
+        let column = Band {
+            board: band.board,
+            from: x,
+            to: x + 1,
+        };
+        if bad_band(column, picture) {
+            return Some(x);
         }
-        x += 1;
     }
-    to
+    None
 }
 
-// The column lines from..to, up to the first that has a bad byte: which that is, or `to`. A band of no column is left at
-// once: a call that begins at a row would else go down all rows of it.
-pub fn column_lines(
-    w: usize,
-    h: usize,
-    from: usize,
-    to: usize,
-    picture: &[u8],
-    scratch: &mut [u32],
-) -> usize
-    requires { Band w h from to × (length picture.now ≡ w * h) × (w * h ≤ length scratch.old) }
-    ensures { FirstBad w h from to picture.now result
-        × Swept w h from result picture.now scratch.old scratch.new }
+// The column lines of the band, up to the first that has a bad byte: which that is. A band of no column is left at once: a
+// call that begins at a row would else go down all rows of it.
+pub fn column_lines(band: Band, picture: &[u8], scratch: &mut [u32]) -> Option<usize>
+    requires picture_is { length picture.now ≡ band.board.w * band.board.h }
+    requires scratch_from { band.board.w * band.board.h ≤ length scratch.old }
+    ensures first { FirstBad band.board.w band.board.h band.from band.to picture.now (reached band.to result) }
+    ensures inside { IfSome result (λ x. x < band.to) }
+    ensures swept { Swept band.board.w band.board.h band.from (reached band.to result) picture.now
+        scratch.old scratch.new }
 {
-    if from == to {
-        return to;
+    if band.from == band.to {
+        return None;
     }
-    let end = first_bad(w, h, from, to, picture);
-    sweep(w, h, from, end, picture, scratch);
-    end
+    let bad = first_bad(band, picture);
+    let end = bad.unwrap_or(band.to);
+    let good = Band {
+        board: band.board,
+        from: band.from,
+        to: end,
+    };
+    sweep(good, picture, scratch);
+    bad
 }

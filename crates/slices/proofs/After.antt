@@ -35,15 +35,15 @@ module _ {line end n next : ℕ} (e : end ≡ line + n) (l : line ≤ next) wher
   to_stop : next - line < n → next < end
   to_stop f = omega arith
 
-module _ {w h line end c : ℕ} {picture before swept : List ℕ} (l : line ≤ end)
-    (F : FirstBad w h (min line w) (min end w) picture c) (S : Swept w h (min line w) c picture before swept) where
+module _ {w h line end a b c : ℕ} {picture before swept : List ℕ} (l : line ≤ end) (a_is : a ≡ min line w)
+    (b_is : b ≡ min end w) (F : FirstBad w h a b picture c) (S : Swept w h a c picture before swept) where
   -- a column among the lines is one of the band's
-  in_band : {x : ℕ} → x < w → line ≤ x → min line w ≤ x
-  in_band m a = omega arith
+  in_band : {x : ℕ} → x < w → line ≤ x → a ≤ x
+  in_band m n = omega arith
 
   -- none of the band's columns stops
   columns_pass : (scratch : List ℕ) (k : ℕ) → k < w → line ≤ k → k < c → line_number w h picture scratch k ≡ 0
-  columns_pass scratch k m a b = column_line_number w h picture scratch k m ∙ F.none_stops k (in_band m a) b
+  columns_pass scratch k m n o = column_line_number w h picture scratch k m ∙ F.none_stops k (in_band m n) o
 
   -- past the board the sweep leaves every word
   swept_beyond : Beyond (w * h) before swept
@@ -53,14 +53,14 @@ module _ {w h line end c : ℕ} {picture before swept : List ℕ} (l : line ≤ 
   others_stay : (x y : ℕ) → x < w → (line ≤ x → x < c → ⊥) → get_or swept (cell w x y) 0 ≡ get_or before (cell w x y) 0
   others_stay x y m out =
       S.others (cell w x y)
-      (λ x' y' a b n e.
+      (λ x' y' from to n e.
       let in_row : x' < w = omega (arith, F.to_in) in
       let (same, rest) = cell_inj y y' m in_row e in
       out (omega arith) (omega arith))
 
   -- a call that ends with its columns: at one that stops, or at the end of its lines
   module _ {kind number : ℕ} {d s : List ℕ} (short : line ≤ w) (all : c ≡ end → number ≡ 0)
-      (stop : c < end → (c < min end w) × (number ≡ 5)) where
+      (stop : c < end → (c < b) × (number ≡ 5)) where
     pub columns_left : LinesDone w h kind line end picture (buffers d s before) number c (buffers d s swept)
     columns_left = record { from_in = from_in; to_in = to_in; zeroed = zeroed }
       where
@@ -97,7 +97,7 @@ module _ {w h line end c : ℕ} {picture before swept : List ℕ} (l : line ≤ 
             }
 
   -- a call that goes on to the rows, after the last column
-  module _ {kind : ℕ} {d d' s s' after : List ℕ} {number y : ℕ} (far : w < end) (last : min end w ≤ c) (few : end ≤ w + h)
+  module _ {kind : ℕ} {d d' s s' after : List ℕ} {number y : ℕ} (far : w < end) (last : b ≤ c) (few : end ≤ w + h)
       (R : RowsEnded kind w h (line - w) (end - w) swept after d d' s s' number y) where
     -- every column is done
     all_columns : c ≡ w
@@ -186,24 +186,24 @@ module _ {w h line end c : ℕ} {picture before swept : List ℕ} (l : line ≤ 
                 row_line_number w h picture scratch k ∙ row_number_same w h scratch swept k (λ x m. same x k m n)
 
 -- the words after the cells' words, up to `words`, come back set to zero
-pub tail_zeroed : {w h words : ℕ} (scratch zeros : List ℕ) → words ≡ scratch_words w h → words ≤ length scratch
-    → length zeros ≡ length (mid_of (w * h) (words - w * h) scratch)
-    → ((k : ℕ) → k < length (mid_of (w * h) (words - w * h) scratch) → get_or zeros k 0 ≡ 0)
-    → TailZeroed w h scratch (put_mid (w * h) (words - w * h) scratch zeros)
-tail_zeroed {w} {h} {words} scratch zeros e room long zero =
-    let part : length (mid_of (w * h) (words - w * h) scratch) ≡ words - w * h =
-    part_length {a = w * h} {e = words} scratch (omega arith) room in
+pub tail_zeroed : {w h cells words : ℕ} (scratch zeros : List ℕ) → cells ≡ w * h → words ≡ scratch_words w h
+    → words ≤ length scratch → length zeros ≡ length (mid_of cells (words - cells) scratch)
+    → ((k : ℕ) → k < length (mid_of cells (words - cells) scratch) → get_or zeros k 0 ≡ 0)
+    → TailZeroed w h scratch (put_mid cells (words - cells) scratch zeros)
+tail_zeroed {cells = cells} {words} scratch zeros before to room long zero =
+    let part : length (mid_of cells (words - cells) scratch) ≡ words - cells =
+    part_length {a = cells} {e = words} scratch (omega arith) room in
     record {
-      cells_kept = λ k l. put_before {a = w * h} (words - w * h) scratch zeros (omega arith) l;
+      cells_kept = λ k l. put_before {a = cells} (words - cells) scratch zeros (omega arith) (omega arith);
       zero =
           λ k l m.
-          let at : w * h + (k - w * h) ≡ k = omega arith in
-          subst (λ j. get_or (put_mid (w * h) (words - w * h) scratch zeros) j 0 ≡ 0) at
-          (put_inside {a = w * h} (words - w * h) scratch zeros (omega arith) (omega arith) ∙ zero (k - w * h) (omega arith));
+          let at : cells + (k - cells) ≡ k = omega arith in
+          subst (λ j. get_or (put_mid cells (words - cells) scratch zeros) j 0 ≡ 0) at
+          (put_inside {a = cells} (words - cells) scratch zeros (omega arith) (omega arith) ∙ zero (k - cells) (omega arith));
       beyond =
-          subst (λ n. Beyond n scratch (put_mid (w * h) (words - w * h) scratch zeros)) e
+          subst (λ n. Beyond n scratch (put_mid cells (words - cells) scratch zeros)) to
           (record {
-            as_long = same_len_mid (w * h) (words - w * h) scratch zeros long;
-            untouched = drop_put (w * h) words scratch zeros (omega arith) room (long ∙ part);
+            as_long = same_len_mid cells (words - cells) scratch zeros long;
+            untouched = drop_put cells words scratch zeros (omega arith) room (long ∙ part);
           });
     }

@@ -24,5 +24,5 @@ pub fn square(squares: &[u32], k: usize) -> u64
     requires { k < length squares.now }
     ensures { result ≡ get_or squares.now k 0 }
 {
-    squares[k] as u64
+    u64::from(squares[k])
 }

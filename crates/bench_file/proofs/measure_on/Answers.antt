@@ -3,7 +3,6 @@
 use mathlib.Core.Path.{◌≡◌, ◌∙◌, sym, subst}
 use mathlib.Core.Bool.{false}
 use Prim.Native.Nat.{◌*◌}
-use native.Mathlib.Omega.{arith}
 use lib.ListN.{length}
 use Rattle.rules.specs.Limits.{bench_side}
 use Rattle.rules.specs.BenchFile.{bored_by}
@@ -26,10 +25,9 @@ returns-then-no_bore c = six c.args.file.now c.requires.0 (picture_is (goal.at.r
 
 pub row_map-requires : goal.row_map-requires
 row_map-requires c =
-    let r = c.requires.1 in (
-      record { kind_in = omega arith; no_chamfer = omega arith },
-      map_accepted c.args.file.now (picture_is (goal.at.row_map-requires c).After-bore-bores) (has_bore (goal.at.row_map-requires c).Else-no_bore) r.distances_is r.sites_is r.scratch_is,
-    )
+    let r = c.requires.1 in
+    map_accepted c.args.file.now (picture_is (goal.at.row_map-requires c).After-bore-bores) (has_bore (goal.at.row_map-requires c).Else-no_bore)
+    r.distances_is r.sites_is r.scratch_is
 
 pub returns : goal.returns
 returns c =

@@ -1,15 +1,14 @@
-use mathlib.Core.Path.{sym}
-use native.Mathlib.Omega.{arith}
+-- `board_tests::no_bore` meets its contract. Assumes nothing.
+use Rattle.std.proofs.Common.{rules, ◌↔◌, ◌≡◌, eqb, not, Any, IsTrue}
+use Rattle.std.proofs.iter.runs.Made.{chains}
+use mathlib.Core.Path.{ap}
+use borrow.Author.Tests.{eqb-true, eq-eqb}
 use Rattle.rules.specs.Refusals.{no_bore}
-use Rattle.rules.proofs.Refusals.{holds_unless, bore_passes, bore_good}
+use Rattle.rules.proofs.Refusals.{any_told}
 use Rattle.board_tests.proofs.no_bore.Goals as goal
 
-pub returns-then-picture-i-eq1 : goal.returns-then-picture-i-eq1
-returns-then-picture-i-eq1 c =
-    let l = c.args.picture.now in
-    sym (bore_good l (c.loop-i.i, c.loop-i-test.true, c.if-picture-i-eq1.true))
-
 pub returns : goal.returns
+unfolding no_bore
 returns c =
-    let l = c.args.picture.now in
-    sym (holds_unless (no_bore l) (λ e. let b = bore_passes l e in c.loop-i.invariant.0 b.0 (omega arith) b.2))
+    let told : IsTrue c.contains.result ↔ Any (λ b. 1 ≡ b) c.args.picture.now = search (rules, chains) in
+    ap not (any_told (eqb 1) (eq-eqb 1) (eqb-true 1) _ _ told)

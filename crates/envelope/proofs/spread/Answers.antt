@@ -1,4 +1,4 @@
-use mathlib.Core.Path.{refl, sym, ◌∙◌}
+use mathlib.Core.Path.{refl}
 use Prim.Native.Nat.{◌≤◌}
 use native.Mathlib.Omega.{arith}
 use lib.ListN.{length}
@@ -44,18 +44,18 @@ offset_bounds-work-q c = omega (arith, within (goal.at.offset_bounds-work-q c).I
 pub bounds-work-q : goal.bounds-work-q
 bounds-work-q c = omega (arith, within (goal.at.bounds-work-q c).In-loop-x)
 
-pub overflow_sub-q-then-as_index-x : goal.overflow_sub-q-then-as_index-x
-overflow_sub-q-then-as_index-x c = c.loop-x.invariant.some c.loop-x-test.true
+pub overflow_sub-q-then-work-q : goal.overflow_sub-q-then-work-q
+overflow_sub-q-then-work-q c = c.loop-x.invariant.some c.loop-x-test.true
 
-pub loop-x-preserved-then-as_index-x : goal.loop-x-preserved-then-as_index-x
-loop-x-preserved-then-as_index-x c =
+pub loop-x-preserved-then-work-q : goal.loop-x-preserved-then-work-q
+loop-x-preserved-then-work-q c =
     spread_start_of c.requires c.loop-x.invariant c.loop-x-test.true
-    (sym c.as_index.ensures ∙ c.if-as_index-x.true)
+    c.if-work-q.true
 
 pub loop-x-preserved : goal.loop-x-preserved
 loop-x-preserved c =
     spread_within c.requires c.loop-x.invariant c.loop-x-test.true
-    (λ e. c.if-as_index-x.false (c.as_index.ensures ∙ e))
+    c.if-work-q.false
 
 pub shape_of-winners : goal.shape_of-winners
 shape_of-winners c = c.loop-x.invariant.as_long

@@ -9,7 +9,7 @@ pub begin-start-requires : goal.begin-start-requires
 begin-start-requires c =
     let p = c.requires in
     let k = c.keep-kept.ensures in
-    (p.0, p.1, omega (arith, k.most, p.2.few), against _ p.2 (initial _ p.0.gauged.measuring.parts _ _) k)
+    (p.0, p.1, omega (arith, k.most, p.2.few), against _ p.2 (initial _ _ _) k)
 
 pub returns-then-n-start : goal.returns-then-n-start
 returns-then-n-start c = turn_past c.args.work.now c.keep-kept.ensures c.begin-start.ensures c.if-n-start.true

@@ -7,4 +7,5 @@ use Rattle.figure.proofs.figure.Goals as goal
 
 pub returns : goal.returns
 unfolding of_bits
-returns c = scaled c.args.n (of_bits binary64 0x3f70_0000_0000_0000) (omega (arith, c.ranges.n)) (refl, refl)
+returns c =
+    rw c.from.ensures (scaled c.args.n (of_bits binary64 0x3f70_0000_0000_0000) (omega (arith, c.ranges.n)) (refl, refl))

@@ -1,9 +1,8 @@
-use Rattle.std.proofs.Common.{arith}
-use Rattle.figure_text.proofs.Writing.{counting_first, counting_more}
+-- `figure_text::digit_count` meets its contract: the logarithm is that of a number that is not 0. Assumes nothing.
+use Rattle.figure_text.proofs.Writing.{log_counts}
 use Rattle.figure_text.proofs.digit_count.Goals as goal
 
-pub loop-rest-init : goal.loop-rest-init
-loop-rest-init c = counting_first (omega arith)
-
-pub loop-rest-preserved : goal.loop-rest-preserved
-loop-rest-preserved c = counting_more c.loop-rest.invariant (omega arith)
+pub returns : goal.returns
+returns c =
+    let l = c.ilog10.ensures in
+    log_counts c.args.number c.ilog10.result l.bound (rw c.max.ensures at l.power_le) (rw c.max.ensures at l.next_power_gt)

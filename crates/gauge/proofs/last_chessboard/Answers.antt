@@ -3,17 +3,16 @@ use native.Mathlib.Omega.{arith}
 use Rattle.gauge.proofs.Places.{first_away, chessboard_left, chessboard_right}
 use Rattle.gauge.proofs.last_chessboard.Goals as goal
 
-pub returns-then-edge-middle : goal.returns-then-edge-middle
-returns-then-edge-middle c = (omega arith, chessboard_left _ _ _ _ _ _ (omega arith) (omega arith) (omega arith))
+pub returns-then-p-clause-last : goal.returns-then-p-clause-last
+returns-then-p-clause-last c =
+    let p = c.args.p in
+    chessboard_left _ _ _ _ _ _ (omega (arith, p.given.apart)) (omega arith) (omega (arith, c.max.ensures))
 
-pub returns-else-edge-middle : goal.returns-else-edge-middle
-returns-else-edge-middle c = (omega arith, chessboard_left _ _ _ _ _ _ (omega arith) (omega arith) (omega arith))
+pub overflow_sub-right : goal.overflow_sub-right
+overflow_sub-right c = let p = c.args.p in omega (arith, first_away p.i, first_away p.u)
 
-pub overflow_sub-edge : goal.overflow_sub-edge
-overflow_sub-edge c = omega (arith, first_away c.args.i, first_away c.args.u)
-
-pub returns-then-edge-middle-2 : goal.returns-then-edge-middle-2
-returns-then-edge-middle-2 c = (omega arith, chessboard_right _ _ _ _ _ _ (omega arith) (omega arith) (omega (arith, first_away c.args.i, first_away c.args.u)) (omega arith))
-
-pub returns-else-edge-middle-2 : goal.returns-else-edge-middle-2
-returns-else-edge-middle-2 c = (omega arith, chessboard_right _ _ _ _ _ _ (omega arith) (omega arith) (omega (arith, first_away c.args.i, first_away c.args.u)) (omega arith))
+pub returns-clause-last : goal.returns-clause-last
+returns-clause-last c =
+    let p = c.args.p in
+    chessboard_right _ _ _ _ _ _ (omega (arith, p.given.apart)) (omega arith)
+    (omega (arith, first_away p.i, first_away p.u)) (omega (arith, c.min.ensures))

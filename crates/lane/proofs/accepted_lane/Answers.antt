@@ -1,7 +1,6 @@
 -- `lane::accepted_lane` meets its contract: the map is made, and lends its words to the best lane. Assumes nothing.
 use mathlib.Core.Path.{sym}
 use Prim.Native.Nat.{◌*◌, ◌≤◌}
-use native.Mathlib.Omega.{arith}
 use lib.ListN.{length}
 use lib.Seq.{length-take-le}
 use Rattle.rules.specs.Calls.{buffers, PictureAfter}
@@ -11,49 +10,55 @@ use Rattle.lane.proofs.accepted_lane.Goals as goal
 
 -- the map is made
 mapped : (c : After-row_map) → let a = c.args in
-    PictureAfter a.a.w a.a.h 0 0 0 a.picture.now
+    PictureAfter a.board.w a.board.h 0 0 0 a.picture.now
     (buffers a.distances.now a.sites.now a.scratch.now)
     (buffers c.row_map.new.distances c.row_map.new.sites c.row_map.new.scratch)
 mapped c = c.row_map.ensures 0 0
 
 -- the map's lists have room for the board
 words_in : (c : After-row_map) → let a = c.args in
-    a.a.w * a.a.h ≤ length c.row_map.new.distances
+    a.board.w * a.board.h ≤ length c.row_map.new.distances
 words_in c =
     let a = c.args in
-    words_room a.a.w a.a.h a.picture.now a.a.from a.a.to a.path.now c.requires (mapped c)
+    words_room a.board.w a.board.h a.picture.now a.from a.to a.path.now c.requires (mapped c)
 
 scratch_in : (c : After-row_map) → let a = c.args in
-    a.a.w * a.a.h ≤ length c.row_map.new.scratch
+    a.board.w * a.board.h ≤ length c.row_map.new.scratch
 scratch_in c =
     let a = c.args in
-    scratch_room a.a.w a.a.h a.picture.now a.a.from a.a.to a.path.now c.requires (mapped c)
+    scratch_room a.board.w a.board.h a.picture.now a.from a.to a.path.now c.requires (mapped c)
 
 pub row_map-requires : goal.row_map-requires
-row_map-requires c = (record { kind_in = omega arith; no_chamfer = omega arith }, map_accepted c.requires)
+row_map-requires c = map_accepted c.requires
 
 pub slice_bounds-best_lane-end : goal.slice_bounds-best_lane-end
-slice_bounds-best_lane-end c = words_in (goal.at.slice_bounds-best_lane-end c).After-row_map
+slice_bounds-best_lane-end c = rw c.cells-n.ensures (words_in (goal.at.slice_bounds-best_lane-end c).After-row_map)
 
 pub slice_bounds-best_lane-end-2 : goal.slice_bounds-best_lane-end-2
-slice_bounds-best_lane-end-2 c = sym (length-take-le _ _ (words_in (goal.at.slice_bounds-best_lane-end-2 c).After-row_map))
+slice_bounds-best_lane-end-2 c = rw c.cells-n.ensures (sym (length-take-le _ _ (words_in (goal.at.slice_bounds-best_lane-end-2 c).After-row_map)))
 
 pub slice_bounds-best_lane-end-3 : goal.slice_bounds-best_lane-end-3
-slice_bounds-best_lane-end-3 c = scratch_in (goal.at.slice_bounds-best_lane-end-3 c).After-row_map
+slice_bounds-best_lane-end-3 c = rw c.cells-n.ensures (scratch_in (goal.at.slice_bounds-best_lane-end-3 c).After-row_map)
 
 pub slice_bounds-best_lane-end-4 : goal.slice_bounds-best_lane-end-4
-slice_bounds-best_lane-end-4 c = sym (length-take-le _ _ (scratch_in (goal.at.slice_bounds-best_lane-end-4 c).After-row_map))
+slice_bounds-best_lane-end-4 c = rw c.cells-n.ensures (sym (length-take-le _ _ (scratch_in (goal.at.slice_bounds-best_lane-end-4 c).After-row_map)))
 
 pub slice_bounds-best_lane-end-6 : goal.slice_bounds-best_lane-end-6
-slice_bounds-best_lane-end-6 c = sym (length-take-le _ _ c.requires.path_from)
+slice_bounds-best_lane-end-6 c = rw c.cells-n.ensures (sym (length-take-le _ _ c.requires.path_from))
 
 pub best_lane-requires : goal.best_lane-requires
 best_lane-requires c =
     let a = c.args in
-    askable a.a.w a.a.h a.picture.now a.a.from a.a.to a.path.now c.requires (mapped (goal.at.best_lane-requires c).After-row_map)
+    let (lists, from_inside, to_inside) =
+    askable a.board.w a.board.h a.picture.now a.from a.to a.path.now c.requires (mapped (goal.at.best_lane-requires c).After-row_map) in
+    rw c.cells-n.ensures (record { lists = lists; from_inside = from_inside; to_inside = to_inside })
 
 pub returns : goal.returns
 returns c =
     let a = c.args in
-    lane_after a.a.w a.a.h a.picture.now a.a.from a.a.to a.path.now c.requires (mapped (goal.at.returns c).After-row_map)
-    c.best_lane.ensures c.best_lane.auto.labels c.best_lane.auto.path
+    let laid = rw c.cells-n.ensures at c.best_lane.ensures in
+    let labels = rw c.cells-n.ensures at c.best_lane.auto.labels in
+    let path = rw c.cells-n.ensures at c.best_lane.auto.path in
+    rw c.cells-n.ensures
+    (lane_after a.board.w a.board.h a.picture.now a.from a.to a.path.now c.requires (mapped (goal.at.returns c).After-row_map)
+    laid labels path)

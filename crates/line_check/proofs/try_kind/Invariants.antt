@@ -1,11 +1,7 @@
--- `line_check::try_kind` meets its contract. The loop's invariant: the counts are those of the lines tried. The measure
--- is the number of lines that are left. Assumes nothing.
-use Prim.Native.Nat.{◌-◌, ◌≤◌}
-use Rattle.line_check.specs.Tallied.{Tallied}
+-- `line_check::try_kind` meets its contract. The loop's invariant: the tally is of as many lines as turns are done. Assumes
+-- nothing.
+use Rattle.std.proofs.Common.{◌≡◌}
 use Rattle.line_check.proofs.try_kind.Given as goal
 
-abbrev pub invariant-loop-tried : goal.invariant-loop-tried
-invariant-loop-tried l = (l.tried ≤ l.lines) × Tallied l.tried l.places l.wrong
-
-abbrev pub decreases-loop-tried : goal.decreases-loop-tried
-decreases-loop-tried l = l.lines - l.tried
+abbrev pub invariant-loop : goal.invariant-loop
+invariant-loop l = l.tally.lines ≡ l.counter

@@ -1,16 +1,10 @@
 -- `maps::picture_map` meets its contract: a call that is refused leaves everything, and past the tests the map is made.
 -- Assumes nothing.
-use Rattle.std.proofs.Common.{◌≡◌, sym, ◌∙◌, rules}
+use mathlib.Core.Path.{sym}
 use Rattle.rules.proofs.Refusals.{picture_accepted}
-use Rattle.rules.proofs.Calls.{refused_call, made_call}
 use Rattle.maps.proofs.picture_map.Goals as goal
 
 pub accepted_map-requires : goal.accepted_map-requires
 accepted_map-requires c =
-    let none : c.picture_refusal-refused.result ≡ 0 = search rules in
-    picture_accepted _ _ _ _ _ _ _ _ _ (sym c.picture_refusal-refused.ensures ∙ none)
-
-pub returns : goal.returns
-returns c =
-    let none : c.picture_refusal-refused.result ≡ 0 = search rules in
-    made_call (sym none ∙ c.picture_refusal-refused.ensures) c.accepted_map.ensures
+    let b = c.in_ok-board.ensures in
+    rw (b.board.0, b.board.1) (picture_accepted _ _ _ _ _ _ _ _ _ (sym b.number))

@@ -1,13 +1,6 @@
--- `rows::fill` meets its contract. The loop's invariant: the values before i are those of their words. The measure is what
--- is left of the row. Assumes nothing.
-use Prim.Native.Nat.{◌-◌, ◌≤◌}
-use lib.ListN.{length, get_or}
-use Rattle.rules.proofs.Filling.{Filling}
-use Rattle.rows.specs.Row.{value_of}
+-- `rows::fill` meets its contract. The loop's invariant: the values before i are what the calls gave. Assumes nothing.
+use Rattle.std.proofs.Common.{ℕ, ◌<◌, get_or, length, ◌≡◌}
 use Rattle.rows.proofs.fill.Given as goal
 
 abbrev pub invariant-loop-i : goal.invariant-loop-i
-invariant-loop-i l = Filling (λ k. value_of l.g l.y (get_or l.words k 0)) l.initial.values l.values l.i × (l.i ≤ length l.words)
-
-abbrev pub decreases-loop-i : goal.decreases-loop-i
-decreases-loop-i l = length l.words - l.i
+invariant-loop-i g l = ((k : ℕ) → k < l.i → goal.F-post g l.stands_at k (get_or l.words k 0) (get_or l.values k 0)) × (length l.values ≡ length l.words)

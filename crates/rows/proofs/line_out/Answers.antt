@@ -4,7 +4,7 @@ use mathlib.Core.Path.{◌≡◌, ◌∙◌}
 use Prim.Native.Nat.{◌+◌, ◌-◌}
 use lib.ListN.{length}
 use borrow.Rule.Slice.PartMut.{put_mid, same_len_mid}
-use Rattle.rows.proofs.RowLine.{words_part, tail_length, words_stay, gauged, winners_fit, winners_chosen, line_out}
+use Rattle.rows.proofs.RowLine.{words_part, tail_length, words_stay, a_line, winners_fit, winners_chosen, line_out}
 use Rattle.rows.proofs.line_out.Goals.{After-winners_of}
 use Rattle.rows.proofs.line_out.Goals as goal
 
@@ -22,19 +22,19 @@ stay c =
 pub winners_of-requires : goal.winners_of-requires
 winners_of-requires c =
     let p = c.requires in
-    (record { gauged = gauged p.0; room = tail_length p.0.believed }, p.2)
+    (record { line = a_line p.0; room = tail_length p.0.believed }, p.2)
 
 pub write_distances-requires : goal.write_distances-requires
 write_distances-requires c =
     let p = c.requires in
-    (gauged p.0, winners_fit p.0 c.winners_of.ensures, c.winners_of.auto.winners ∙ p.2, p.1)
+    (a_line p.0, winners_fit _ p.0 c.winners_of.ensures, c.winners_of.auto.winners ∙ p.2, p.1)
 
 pub write_sites-requires : goal.write_sites-requires
 write_sites-requires c =
     let p = c.requires in
-    rw (stay (goal.at.write_sites-requires c).After-winners_of) (winners_chosen p.0 c.winners_of.ensures (c.winners_of.auto.winners ∙ p.2))
+    rw (stay (goal.at.write_sites-requires c).After-winners_of) (winners_chosen _ p.0 c.winners_of.ensures (c.winners_of.auto.winners ∙ p.2))
 
 pub returns : goal.returns
 returns c =
-    line_out c.requires.0 c.winners_of.ensures c.winners_of.new.work c.write_distances.ensures
+    line_out _ c.requires.0 c.winners_of.ensures c.winners_of.new.work c.write_distances.ensures
     (rw (stay (goal.at.returns c).After-winners_of) at c.write_sites.ensures) c.winners_of.auto.work

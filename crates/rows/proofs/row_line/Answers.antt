@@ -5,22 +5,24 @@ use lib.ListN.{length}
 use Rattle.rows.specs.Row.{Believed, Filled}
 use Rattle.rows.proofs.RowLine.{words_part, words_length, words_named, line_read, row_made}
 use Rattle.rows.proofs.row_line.Goals.{After-fill}
+use Rattle.std.proofs.Common.{rules}
 use Rattle.rows.proofs.row_line.Goals as goal
 
 -- the scratch is asked for a line as long as the filled one
 believed : (c : After-fill) → let a = c.args in
-    Believed a.g a.squares.now a.at a.tail a.scratch.now (length c.fill.new.values)
+    Believed a.at a.tail a.scratch.now (length c.fill.new.values)
 believed c = rw c.fill.auto.values c.requires.0
 
 -- and so are its words
 made : (c : After-fill) → let a = c.args in let values = c.fill.new.values in
-    Filled a.g a.y (words_part a.at (length values) a.scratch.now) values
-made c = rw c.fill.auto.values c.fill.ensures
+    Filled a.g.now.kind a.y (words_part a.at (length values) a.scratch.now) values
+made c = rw c.fill.auto.values (record { each = λ i l. let h = c.fill.ensures i l in search rules })
 
-pub fill-requires : goal.fill-requires
-fill-requires c =
-    let p = c.requires in
-    (p.0.measuring, p.1, sym (words_length p.0), words_named p.0)
+pub fill-requires-clause-as_long : goal.fill-requires-clause-as_long
+fill-requires-clause-as_long c = sym (words_length c.requires.0)
+
+pub fill-requires-clause-each : goal.fill-requires-clause-each
+fill-requires-clause-each c = let p = c.requires in λ i l _ _ _ _ _ _. (p.1, words_named p.0 i l)
 
 pub line_out-requires : goal.line_out-requires
 line_out-requires c =

@@ -1,29 +1,37 @@
--- `slices::slice` meets its contract: a start that refuses leaves everything, and past it the call works. Assumes nothing.
-use mathlib.Core.Path.{refl, sym, ◌∙◌}
-use Rattle.rules.proofs.Calls.{refused_call}
+-- `slices::slice` meets its contract: a start that refuses leaves everything, and past it the call works, since a kind that
+-- the start lets pass has parts. Assumes nothing.
+use mathlib.Core.Path.{sym}
+use native.Mathlib.Omega.{arith}
+use lib.ListN.{length}
+use Rattle.rules.specs.declared.kind.LineKind.TheVariants.{Euclid, Manhattan, Chessboard}
+use Rattle.rules.specs.Accepted.{SliceAccepted}
 use Rattle.rules.proofs.SliceRows.{slice_accepted}
+use Rattle.slices.proofs.slice.Goals.{In_ok-board}
 use Rattle.slices.proofs.slice.Goals as goal
 
-pub returns-then-refused-ne0 : goal.returns-then-refused-ne0
-returns-then-refused-ne0 c = refused_call c.slice_refusal-refused.ensures c.if-refused-ne0.true (refl, refl)
+-- what the start lets pass
+accepted : (c : In_ok-board) → let a = c.args in
+    SliceAccepted a.w a.h a.kind a.line (length a.picture.now) (length a.distances.now) (length a.sites.now) (length a.scratch.now)
+accepted c = slice_accepted _ _ _ _ _ _ _ _ (sym c.in_ok-board.ensures.number)
 
-pub accepted_slice-requires : goal.accepted_slice-requires
-accepted_slice-requires c = slice_accepted _ _ _ _ _ _ _ _ (sym c.slice_refusal-refused.ensures ∙ c.if-refused-ne0.false)
+pub returns-in_err-kind : goal.returns-in_err-kind
+returns-in_err-kind c =
+    let A = accepted (goal.at.returns-in_err-kind c).In_ok-board in
+    let none = c.in_err-kind.ensures.1 in
+    absurd (omega (arith, A.kind_in, none Euclid, none Manhattan, none Chessboard))
 
-pub shape_of-distances : goal.shape_of-distances
-shape_of-distances c = c.accepted_slice.auto.distances
+pub accepted_slice-requires-clause-line_in : goal.accepted_slice-requires-clause-line_in
+accepted_slice-requires-clause-line_in c =
+    let A = accepted (goal.at.accepted_slice-requires-clause-line_in c).In_ok-board in
+    omega (arith, A.line_in, c.in_ok-board.ensures.board)
 
-pub shape_of-sites : goal.shape_of-sites
-shape_of-sites c = c.accepted_slice.auto.sites
-
-pub shape_of-scratch : goal.shape_of-scratch
-shape_of-scratch c = c.accepted_slice.auto.scratch
-
-pub returns : goal.returns
-returns c =
-    let (started, after) = c.accepted_slice.ensures in
-    record {
-      answered = started ∙ sym c.if-refused-ne0.false ∙ c.slice_refusal-refused.ensures;
-      refused = λ some. absurd (some started);
-      done = λ _. after;
-    }
+pub accepted_slice-requires-clause-lent : goal.accepted_slice-requires-clause-lent
+accepted_slice-requires-clause-lent c =
+    let lent = (accepted (goal.at.accepted_slice-requires-clause-lent c).In_ok-board).lent in
+    let same = c.in_ok-board.ensures.board in
+    rw (same.0, same.1) (record {
+      picture_is = lent.picture_is;
+      distances_from = lent.distances_from;
+      sites_from = lent.sites_from;
+      scratch_from = omega (arith, lent.scratch_from);
+    })

@@ -1,21 +1,16 @@
+-- One cell more: its turn settles it, and the scan goes on from there. Assumes nothing.
 use native.Mathlib.Omega.{arith}
 use borrow.Author.Rules.{rules}
 use Rattle.chamfer_turn.specs.Neighbours.{On, CellTurned}
 use Rattle.chamfer.specs.Scans.{half}
 use Rattle.chamfer.proofs.Order.{forward_scan}
 use Rattle.chamfer.proofs.Settling.{one_turn, forward_on}
-use Rattle.chamfer.proofs.scans.forward_row.Goals.{In-loop-x}
 use Rattle.chamfer.proofs.scans.forward_row.Goals as goal
-
--- the cell that has its turn
-here : (c : In-loop-x) → On c.args.b c.loop-x.x c.args.y
-here c = record { column_in = omega arith; row_in = c.requires.2 }
 
 pub loop-x-preserved : goal.loop-x-preserved
 loop-x-preserved c =
-    let inv = c.loop-x.invariant.1 in
-    let turned : CellTurned c.args.b c.loop-x.x c.args.y 0 half c.loop-x.words c.relax.new.words = search rules in (
-      omega arith,
-      forward_on (omega arith) (omega arith) inv
-          (one_turn forward_scan (omega arith) (omega arith) inv.words (here (goal.at.loop-x-preserved c).In-loop-x) turned),
-    )
+    let before = c.loop-x.invariant in
+    let here : On c.args.chamfer c.loop-x.x c.args.y = search rules in
+    let turned : CellTurned c.args.chamfer c.loop-x.x c.args.y 0 half c.loop-x.words c.relax.new.words = search rules in
+    forward_on (omega arith) (omega arith) before
+    (one_turn forward_scan (omega arith) (omega arith) before.words here turned)

@@ -10,8 +10,7 @@ use Rattle.chamfer.proofs.scans.map_words.Goals as goal
 
 pub returns : goal.returns
 returns c =
-    let first = begun c.begin.ensures (c.begin.auto.words ∙ c.requires.2) c.requires.0 c.requires.3 in
-    let weights = c.requires.0.weights in
-    let second = brought forward_scan (omega arith) weights c.forward.ensures first in
+    let first = begun c.begin.ensures (c.begin.auto.words ∙ c.requires.words_are) c.requires.bored in
+    let second = brought forward_scan (omega arith) c.forward.ensures first in
     let last = c.backward.ensures in
-    mapped (brought backward_scan (omega arith) weights last second) last.words.one_each c.requires.2
+    mapped (brought backward_scan (omega arith) last second) last.words.one_each c.requires.words_are

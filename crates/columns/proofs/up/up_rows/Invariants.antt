@@ -4,7 +4,9 @@ use Rattle.columns.proofs.Raising.{Raising}
 use Rattle.columns.proofs.up.up_rows.Given as goal
 
 abbrev pub invariant-loop-start : goal.invariant-loop-start
-invariant-loop-start l = Raising l.w l.h l.a l.b l.initial.words l.words l.start l.y
+invariant-loop-start l =
+    let board = l.band.board in
+    Raising board.w board.h l.band.from l.band.to l.fn.words l.words l.start l.y
 
 abbrev pub decreases-loop-start : goal.decreases-loop-start
 decreases-loop-start l = l.start

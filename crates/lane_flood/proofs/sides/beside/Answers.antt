@@ -1,36 +1,28 @@
 -- `lane_flood::sides::beside` meets its contract, side by side. Assumes nothing.
-use mathlib.Core.Path.{◌≡◌, ◌∙◌, sym, ap}
-use Prim.Native.Nat.{◌+◌}
-use native.Mathlib.Nat.{mod-le}
 use native.Mathlib.Omega.{arith}
-use Rattle.lane_flood.proofs.Around.{above, none_above, to_left, none_left, to_right, none_right, below}
+use Rattle.lane_flood.proofs.Around.{above, none_above, to_left, none_left, to_right, none_right, below, none_below}
 use Rattle.lane_flood.proofs.sides.beside.Goals as goal
 
-pub returns-then-w-c : goal.returns-then-w-c
-returns-then-w-c c = rw c.if-k-eq0.true (above c.requires.0 c.args.c c.if-w-c.true)
+pub returns-in-Above : goal.returns-in-Above
+returns-in-Above c = rw c.in-Above.is (above c.requires.rows c.requires.inside (omega arith))
 
-pub returns-else-w-c : goal.returns-else-w-c
-returns-else-w-c c = rw c.if-k-eq0.true (none_above c.requires.0 c.args.c c.if-w-c.false)
+pub returns-in_default : goal.returns-in_default
+returns-in_default c = rw c.in-Above.is (none_above c.requires.rows c.requires.inside (omega arith))
 
-pub overflow_sub-result-else-x-eq0 : goal.overflow_sub-result-else-x-eq0
-overflow_sub-result-else-x-eq0 c = omega (arith, mod-le c.args.c c.args.w)
+pub returns-in-Left : goal.returns-in-Left
+returns-in-Left c = rw c.in-Left.is (to_left c.requires.rows c.requires.inside (omega arith))
 
-pub returns-then-x-eq0 : goal.returns-then-x-eq0
-returns-then-x-eq0 c = rw c.if-k-eq1.true (none_left c.requires.0 c.args.c (sym c.requires.2 ∙ c.if-x-eq0.true))
+pub returns-in_default-2 : goal.returns-in_default-2
+returns-in_default-2 c = rw c.in-Left.is (none_left c.requires.rows c.requires.inside (omega arith))
 
-pub returns-else-x-eq0 : goal.returns-else-x-eq0
-returns-else-x-eq0 c = rw c.if-k-eq1.true (to_left c.requires.0 c.args.c (λ e. c.if-x-eq0.false (c.requires.2 ∙ e)))
+pub returns-in-Right : goal.returns-in-Right
+returns-in-Right c = rw c.in-Right.is (to_right c.requires.rows c.requires.inside (omega arith))
 
-pub overflow_add-x : goal.overflow_add-x
-overflow_add-x c = omega (arith, mod-le c.args.c c.args.w)
+pub returns-in_default-3 : goal.returns-in_default-3
+returns-in_default-3 c = rw c.in-Right.is (none_right c.requires.rows c.requires.inside (omega arith))
 
-pub returns-then-x-w : goal.returns-then-x-w
-returns-then-x-w c = rw c.if-k-eq2.true (none_right c.requires.0 c.args.c (ap (λ x. x + 1) (sym c.requires.2) ∙ c.if-x-w.true))
+pub returns-in-Below : goal.returns-in-Below
+returns-in-Below c = rw c.in-Below.is (below c.requires.rows c.requires.inside (omega arith))
 
-pub returns-else-x-w : goal.returns-else-x-w
-returns-else-x-w c = rw c.if-k-eq2.true (to_right c.requires.0 c.args.c (λ e. c.if-x-w.false (ap (λ x. x + 1) c.requires.2 ∙ e)))
-
-pub returns : goal.returns
-returns c =
-    let last : c.args.k ≡ 3 = omega arith in
-    rw last (below c.requires.0 c.args.c)
+pub returns-in_default-4 : goal.returns-in_default-4
+returns-in_default-4 c = rw c.in-Below.is (none_below c.requires.rows c.requires.inside (omega arith))

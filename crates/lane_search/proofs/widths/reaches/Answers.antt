@@ -5,4 +5,4 @@ use Rattle.lane_search.proofs.Lanes.{flood_answers}
 use Rattle.lane_search.proofs.widths.reaches.Goals as goal
 
 pub returns : goal.returns
-returns c = flood_answers c.flood.ensures c.requires.1 refl
+returns c = flood_answers c.flood.ensures c.requires.from_inside refl

@@ -8,8 +8,13 @@ use Rattle.lane_search.specs.Course.{Between}
 use Rattle.lane_search.proofs.widths.width_of.Given as goal
 
 abbrev pub invariant-loop-low : goal.invariant-loop-low
-invariant-loop-low l = Lists l.w l.words l.labels l.queue × (l.low ≤ l.high) × (l.high < 2 ^ 32)
-    × Between l.w (length l.words) (at l.words) l.from l.to l.low l.high
+invariant-loop-low l =
+    record {
+      lists : Lists l.w l.words l.labels l.queue;
+      in_order : l.low ≤ l.high;
+      fits : l.high < 2 ^ 32;
+      between : Between l.w (length l.words) (at l.words) l.from l.to l.low l.high;
+    }
 
 abbrev pub decreases-loop-low : goal.decreases-loop-low
 decreases-loop-low l = l.high - l.low

@@ -13,46 +13,43 @@ use Rattle.maps.proofs.lines.all_rows.Goals.{In-loop-y}
 use Rattle.maps.proofs.lines.all_rows.Goals as goal
 
 -- the row's end is within the cells
-inside : (c : In-loop-y) → let a = c.args in c.loop-y.at + a.w ≤ a.w * a.h
-inside c = row_ends c.args.w c.loop-y.invariant.1 c.loop-y-test.true
+inside : (c : In-loop-y) → let a = c.args in c.loop-y.at + a.board.w ≤ a.board.w * a.board.h
+inside c = row_ends c.args.board.w c.loop-y.invariant.1 c.loop-y-test.true
 
 -- the line that is lent has a value for each column
-lent : (c : In-loop-y) → let w = c.args.w in length (take w c.loop-y.line) ≡ w
-lent c = length-take-le _ _ (omega (arith, c.loop-y.invariant.3, c.requires.1.width_to))
+lent : (c : In-loop-y) → let w = c.args.board.w in length (take w c.loop-y.line) ≡ w
+lent c = length-take-le _ _ (omega (arith, c.loop-y.invariant.2, c.args.board.sides.width_to))
 
 -- and so have the rows of distances and sites
-lent_row : (c : In-loop-y) (l l₀ : List ℕ) → let w = c.args.w in
-    let n = w * c.args.h in
+lent_row : (c : In-loop-y) (l l₀ : List ℕ) → let w = c.args.board.w in
+    let n = w * c.args.board.h in
     let at = c.loop-y.at in
     n ≤ length l₀ → length l ≡ length l₀ → length (take (at + w - at) (drop at l)) ≡ w
 lent_row c l l₀ room long = row_part_long l c.loop-y.invariant.1 c.loop-y-test.true (omega arith)
 
-pub overflow_mul-tail : goal.overflow_mul-tail
-overflow_mul-tail c = omega (arith, cells_few c.requires.1)
-
 pub loop-y-init : goal.loop-y-init
-loop-y-init c = (rows_none _ _ _, omega arith, omega arith, refl)
+loop-y-init c = (rows_none _ _ _, omega arith, refl)
 
 pub overflow_add-end : goal.overflow_add-end
-overflow_add-end c = omega (arith, inside c, cells_few c.requires.1)
+overflow_add-end c = omega (arith, inside (goal.at.overflow_add-end c).In-loop-y, cells_few c.args.board.sides)
 
 pub slice_bounds-line-end : goal.slice_bounds-line-end
-slice_bounds-line-end c = omega (arith, c.loop-y.invariant.3, c.requires.1.width_to)
+slice_bounds-line-end c = omega (arith, c.loop-y.invariant.2, c.args.board.sides.width_to)
 
 pub slice_bounds-row_line-end : goal.slice_bounds-row_line-end
 slice_bounds-row_line-end c = sym (lent (goal.at.slice_bounds-row_line-end c).In-loop-y)
 
 pub offset_bounds-distances-at : goal.offset_bounds-distances-at
-offset_bounds-distances-at c = omega (arith, inside (goal.at.offset_bounds-distances-at c).In-loop-y, cells_few c.requires.1)
+offset_bounds-distances-at c = omega (arith, inside (goal.at.offset_bounds-distances-at c).In-loop-y, cells_few c.args.board.sides)
 
 pub slice_bounds-row_line-end-in-loop-y : goal.slice_bounds-row_line-end-in-loop-y
-slice_bounds-row_line-end-in-loop-y c = omega (arith, inside (goal.at.slice_bounds-row_line-end-in-loop-y c).In-loop-y, c.requires.2, c.loop-y.invariant.0.distances_beyond.as_long)
+slice_bounds-row_line-end-in-loop-y c = omega (arith, inside (goal.at.slice_bounds-row_line-end-in-loop-y c).In-loop-y, c.requires.0, c.loop-y.invariant.0.distances_beyond.as_long)
 
 pub offset_bounds-sites-at : goal.offset_bounds-sites-at
-offset_bounds-sites-at c = omega (arith, inside (goal.at.offset_bounds-sites-at c).In-loop-y, cells_few c.requires.1)
+offset_bounds-sites-at c = omega (arith, inside (goal.at.offset_bounds-sites-at c).In-loop-y, cells_few c.args.board.sides)
 
 pub slice_bounds-row_line-end-in-loop-y-2 : goal.slice_bounds-row_line-end-in-loop-y-2
-slice_bounds-row_line-end-in-loop-y-2 c = omega (arith, inside (goal.at.slice_bounds-row_line-end-in-loop-y-2 c).In-loop-y, c.requires.3, c.loop-y.invariant.0.sites_beyond.as_long)
+slice_bounds-row_line-end-in-loop-y-2 c = omega (arith, inside (goal.at.slice_bounds-row_line-end-in-loop-y-2 c).In-loop-y, c.requires.1, c.loop-y.invariant.0.sites_beyond.as_long)
 
 pub row_line-requires : goal.row_line-requires
 row_line-requires c =
@@ -60,11 +57,12 @@ row_line-requires c =
     let p = c.requires in
     let i = c.loop-y.invariant in
     let w = lent (goal.at.row_line-requires c).In-loop-y in (
-      subst (Believed a.g a.squares.now c.loop-y.at (a.w * a.h) c.loop-y.scratch) (sym w)
-          (believed_at p.1 c.loop-y.at i.1 p.0 p.5 p.4 c.loop-y-test.true i.0),
-      omega (arith, c.loop-y-test.true, p.1.height_to),
-      lent_row (goal.at.row_line-requires c).In-loop-y c.loop-y.distances a.distances.now p.2 i.0.distances_beyond.as_long ∙ sym w,
-      lent_row (goal.at.row_line-requires c).In-loop-y c.loop-y.sites a.sites.now p.3 i.0.sites_beyond.as_long ∙ sym w,
+      rw c.cells-tail.ensures
+          (subst (Believed c.loop-y.at (a.board.w * a.board.h) c.loop-y.scratch) (sym w)
+          (believed_at a.board.sides c.loop-y.at i.1 p.3 p.2 c.loop-y-test.true i.0)),
+      omega (arith, c.loop-y-test.true, a.board.sides.height_to),
+      lent_row (goal.at.row_line-requires c).In-loop-y c.loop-y.distances a.distances.now p.0 i.0.distances_beyond.as_long ∙ sym w,
+      lent_row (goal.at.row_line-requires c).In-loop-y c.loop-y.sites a.sites.now p.1 i.0.sites_beyond.as_long ∙ sym w,
     )
 
 pub loop-y-preserved : goal.loop-y-preserved
@@ -77,15 +75,14 @@ loop-y-preserved c =
     let d = r.new.distances in
     let s = r.new.sites in
     let d_long = r.auto.distances
-    ∙ lent_row (goal.at.loop-y-preserved c).In-loop-y c.loop-y.distances a.distances.now p.2 i.0.distances_beyond.as_long in
+    ∙ lent_row (goal.at.loop-y-preserved c).In-loop-y c.loop-y.distances a.distances.now p.0 i.0.distances_beyond.as_long in
     let s_long = r.auto.sites
-    ∙ lent_row (goal.at.loop-y-preserved c).In-loop-y c.loop-y.sites a.sites.now p.3 i.0.sites_beyond.as_long in
-    let made = subst (λ n. RowMade a.g c.loop-y.y at (a.w * a.h) n c.loop-y.scratch
-    r.new.scratch d s) (lent (goal.at.loop-y-preserved c).In-loop-y) r.ensures in (
-      rows_more_at p.1 at d s i.1 c.loop-y-test.true p.2 p.3 d_long s_long i.0 made,
+    ∙ lent_row (goal.at.loop-y-preserved c).In-loop-y c.loop-y.sites a.sites.now p.1 i.0.sites_beyond.as_long in
+    let made = subst (λ n. RowMade a.g.now.kind c.loop-y.y at (a.board.w * a.board.h) n c.loop-y.scratch
+    r.new.scratch d s) (lent (goal.at.loop-y-preserved c).In-loop-y) (rw c.cells-tail.ensures at r.ensures) in (
+      rows_more_at a.board.sides at d s i.1 c.loop-y-test.true p.0 p.1 d_long s_long i.0 made,
       omega arith,
-      omega arith,
-      length_front c.loop-y.line r.new.values a.w r.auto.values ∙ i.3,
+      length_front c.loop-y.line r.new.values a.board.w r.auto.values ∙ i.2,
     )
 
 pub shape_of-distances : goal.shape_of-distances
@@ -100,6 +97,6 @@ shape_of-scratch c = c.loop-y.invariant.0.scratch_beyond.as_long
 pub returns : goal.returns
 returns c =
     let a = c.args in
-    let all : c.loop-y.y ≡ a.h = omega arith in
-    subst (λ y. RowsMade a.g a.w a.h y a.scratch.now c.loop-y.scratch a.distances.now
+    let all : c.loop-y.y ≡ a.board.h = omega arith in
+    subst (λ y. RowsMade a.g.now.kind a.board.w a.board.h y a.scratch.now c.loop-y.scratch a.distances.now
     c.loop-y.distances a.sites.now c.loop-y.sites) all c.loop-y.invariant.0

@@ -1,10 +1,11 @@
-use mathlib.Core.Path.{sym}
-use native.Mathlib.Omega.{arith}
-use Rattle.rules.specs.Refusals.{all_marked}
-use Rattle.rules.proofs.Refusals.{holds_unless, unmarked_passes}
+-- `refusals::cost_rows::all_marked` meets its contract. Assumes nothing.
+use Rattle.std.proofs.Common.{rules, ◌≡◌, ◌↔◌, All, IsTrue}
+use Rattle.std.proofs.iter.runs.Made.{chains}
+use Rattle.rules.specs.Limits.{mark}
+use Rattle.rules.proofs.Refusals.{marked_told}
 use Rattle.refusals.proofs.cost_rows.all_marked.Goals as goal
 
 pub returns : goal.returns
 returns c =
-    let l = c.args.costs.now in
-    sym (holds_unless (all_marked l) (λ e. let u = unmarked_passes l e in u.2 (c.loop-i.invariant.0 u.0 (omega arith))))
+    let told : IsTrue c.all.result ↔ All (λ cost. cost ≡ mark) c.args.costs.now = search (rules, chains) in
+    marked_told _ _ told

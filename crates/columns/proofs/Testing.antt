@@ -1,15 +1,19 @@
 -- The test of bytes in one row: the greatest of the bytes, folded from 0, is not below any of them, and it is one of
--- them where it is not 0. Assumes nothing.
-use mathlib.Core.Path.{◌≡◌, refl, ◌∙◌, sym}
+-- them where it is not 0. And in a band: a byte above 1 stands in a row whose greatest byte is above 1. Assumes nothing.
+use mathlib.Core.Path.{◌≡◌, refl, ◌∙◌, sym, subst}
 use mathlib.Core.Logic.{◌≢◌, by_cases}
+use mathlib.Core.Bool.{Bool, true, false, true≢false}
 use mathlib.Core.List.{List, [], ◌∷◌}
-use Prim.Native.Nat.{ℕ, zero, suc, ◌+◌, ◌-◌, ◌≤◌, ◌<◌, max, zero-le}
+use Prim.Native.Nat.{ℕ, zero, suc, ◌+◌, ◌-◌, ◌*◌, ◌≤◌, ◌<◌, max, zero-le}
 use native.Mathlib.Nat.{le_refl}
 use native.Mathlib.Decide.{ℕ_discrete}
 use native.Mathlib.Omega.{arith}
 use lib.ListN.{length, get_or, take, drop, length-take, length-drop}
 use lib.Seq.{get_or-take, get_or-drop}
-use Rattle.std.specs.List.{fold}
+use Rattle.std.specs.Bool.{MatchBool}
+use Rattle.std.specs.List.{fold, range_with_len, HoldsAt, AllWithin}
+use Rattle.std.proofs.lemmas.List.FromFn.{length-range_with_len, get_or-range_with_len}
+use Rattle.columns.specs.Bands.{BadBand}
 use Rattle.columns.specs.Rows.{Most}
 
 -- the greatest of m and some bytes is not below m
@@ -55,3 +59,31 @@ most_is {start} {a} {b} {r} {picture} fits folded =
         let at : start + a + k ≡ start + (a + k) = omega arith in
         let within : k < start + b - (start + a) = omega arith in
         rw (get_or-take, get_or-drop, at)
+
+-- the greatest byte of the columns a up to b in row y is above 1, or is not
+abbrev pub RowBad : ℕ → ℕ → ℕ → List ℕ → ℕ → Type 0
+RowBad w a b picture y = (m : ℕ) × Most (y * w) a b picture m × (1 < m)
+
+abbrev pub RowGood : ℕ → ℕ → ℕ → List ℕ → ℕ → Type 0
+RowGood w a b picture y = (m : ℕ) × Most (y * w) a b picture m × (m ≤ 1)
+
+-- the search of the rows for a bad one is the test of the band
+pub band_is : {w a b : ℕ} {picture : List ℕ} (h : ℕ) (r : Bool) →
+    MatchBool r ((k : ℕ) × (k < length (range_with_len 0 h)) × HoldsAt (RowBad w a b picture) (range_with_len 0 h) k)
+    (AllWithin (RowGood w a b picture) (range_with_len 0 h) 0 (length (range_with_len 0 h))) → BadBand w h a b picture r
+band_is h true (k, l, bad) =
+    let in_range : k < h = omega (arith, l, length-range_with_len 0 h) in
+    let (m, M, far) = bad 0 in
+    let (x, from, to, is) = M.attained (omega arith) in
+    record {
+      holds = λ _. (x, get_or (range_with_len 0 h) k 0, from, to, omega (arith, get_or-range_with_len 0 h k 0 in_range), omega (arith, is));
+      passes = λ e. absurd (true≢false e);
+    }
+band_is {w} {a} {b} {picture} h false good =
+    record {
+      holds = λ e. absurd (true≢false (sym e));
+      passes = λ _ x y from to l.
+          let at : get_or (range_with_len 0 h) y 0 ≡ y = omega (arith, get_or-range_with_len 0 h y 0 l) in
+          let (m, M, near) = subst (RowGood w a b picture) at (good y 0 zero-le (omega (arith, length-range_with_len 0 h))) in
+          omega (arith, M.greatest x from to);
+    }

@@ -39,12 +39,7 @@ pub fn bad_band(band: Band, picture: &[u8]) -> bool
     requires { length picture.now ≡ band.board.w * band.board.h }
     ensures { BadBand band.board.w band.board.h band.from band.to picture.now result }
 {
-    for y in 0..band.board.h {
-        if 1 < row_most(band, y * band.board.w, picture) {
-            return true;
-        }
-    }
-    false
+    (0..band.board.h).any(|y| 1 < row_most(band, y * band.board.w, picture))
 }
 
 // The greatest byte of the band in the row that begins at `start`, or 0 where the band has no column.

@@ -3,7 +3,7 @@
 -- asks for more rows than the board has exactly where it names none of them and is no mark, and all are marks exactly where
 -- none is asked for. That number is the greatest of what the words ask for, as the test of bytes has it of bytes. What stops
 -- a line has a number above 0. Assumes nothing.
-use mathlib.Core.Path.{◌≡◌, sym, ◌∙◌, subst}
+use mathlib.Core.Path.{◌≡◌, refl, sym, ◌∙◌, subst}
 use mathlib.Core.Logic.{◌≢◌, by_cases}
 use mathlib.Core.Bool.{Bool, true, false}
 use mathlib.Core.List.{List}
@@ -18,12 +18,15 @@ use Rattle.rules.specs.Refusals.{answer}
 use Rattle.rules.specs.Slices.{word_at, column_rows, row_rows}
 use Rattle.rules.proofs.SliceRows.{column_0, column_5, row_0, row_6, row_13}
 use Rattle.std.specs.List.{fold}
+use Rattle.std.specs.Option.{MatchOption}
+use Rattle.std.specs.declared.option.Option.{Option}
+use Rattle.std.specs.declared.option.Option.TheVariants.{None, Some}
 use Rattle.std.proofs.Common.{map}
 use Rattle.std.proofs.lemmas.List.{length-map, take-map, drop-map, get_or-map}
 use Rattle.columns.specs.Bands.{BadBand}
 use Rattle.columns.specs.Rows.{Most}
 use Rattle.columns.proofs.Testing.{most_is}
-use Rattle.slice_lines.specs.Lines.{FirstBad, rows_needed, MostNamed}
+use Rattle.slice_lines.specs.Lines.{reached, FirstBad, rows_needed, MostNamed}
 
 module _ {w h from : ℕ} {picture : List ℕ} where
   -- in a band without a bad byte no column stops
@@ -36,32 +39,27 @@ module _ {w h from : ℕ} {picture : List ℕ} where
         stops = λ m. absurd (omega arith);
       }
 
-  module _ {x : ℕ} (F : FirstBad w h from x picture x) where
-    -- nor up to the next one, if it has no bad byte
-    pub column_more : {r : Bool} → BadBand w h x (x + 1) picture r → r ≡ false → FirstBad w h from (x + 1) picture (x + 1)
-    column_more B is =
-        record {
-          from_in = omega (arith, F.from_in);
-          to_in = le_refl (x + 1);
-          none_stops =
-              λ k m n.
-              by_cases (ℕ_discrete k x)
-              (λ e. column_0 w h picture k (λ y o. B.passes is k y (omega arith) (omega arith) o))
-              (λ other. F.none_stops k m (omega arith));
-          stops = λ m. absurd (omega arith);
-        }
-
-    -- with a bad byte it is the first that stops
-    pub column_stops : {to : ℕ} {r : Bool} → x < to → BadBand w h x (x + 1) picture r → r ≡ true → FirstBad w h from to picture x
-    column_stops l B is =
-        let (x', y, m, n, o, far) = B.holds is in
-        let e : x' ≡ x = omega arith in
-        record {
-          from_in = F.from_in;
-          to_in = omega arith;
-          none_stops = F.none_stops;
-          stops = λ _. subst (λ (k : ℕ). answer (column_rows w h picture k) ≡ 5) e (column_5 w h picture x' y o far);
-        }
+  -- the first column that the search finds is the first that stops, and none stops where it finds none
+  pub first_found : {to : ℕ} (r : Option ℕ) → from ≤ to
+      → MatchOption r ((x : ℕ) → from ≤ x → x < to → BadBand w h x (x + 1) picture false)
+      (λ x. (from ≤ x) × (x < to) × BadBand w h x (x + 1) picture true × ((k : ℕ) → from ≤ k → k < x → BadBand w h k (k + 1) picture false))
+      → FirstBad w h from to picture (reached to r)
+  first_found {to} None l good =
+      record {
+        from_in = l;
+        to_in = le_refl to;
+        none_stops = λ x m n. column_0 w h picture x (λ y o. (good x m n).passes refl x y (le_refl x) (omega arith) o);
+        stops = λ m. absurd (omega arith);
+      }
+  first_found (Some x) l (from_in, to_in, bad, good) =
+      let (x', y, m, n, o, far) = bad.holds refl in
+      let e : x' ≡ x = omega arith in
+      record {
+        from_in = from_in;
+        to_in = omega arith;
+        none_stops = λ k m n. column_0 w h picture k (λ y o. (good k m n).passes refl k y (le_refl k) (omega arith) o);
+        stops = λ _. subst (λ (k : ℕ). answer (column_rows w h picture k) ≡ 5) e (column_5 w h picture x' y o far);
+      }
 
 -- the mark asks for no row, and a word that names one for one more than its number
 needs_none : (word : ℕ) → word ≡ mark → rows_needed word ≡ 0

@@ -15,17 +15,18 @@ fn first_bad(band: Band, picture: &[u8]) -> Option<usize>
     if !bad_band(band, picture) {
         return None;
     }
-    for x in band.from..band.to {
-        let column = Band {
-            board: band.board,
-            from: x,
-            to: x + 1,
-        };
-        if bad_band(column, picture) {
-            return Some(x);
-        }
-    }
-    None
+    (band.from..band.to).find(
+        |&x|
+            requires { (x < band.board.w) × (length picture.now ≡ band.board.w * band.board.h) }
+        {
+            let column = Band {
+                board: band.board,
+                from: x,
+                to: x + 1,
+            };
+            bad_band(column, picture)
+        },
+    )
 }
 
 // The column lines of the band, up to the first that has a bad byte: which that is. A band of no column is left at once: a

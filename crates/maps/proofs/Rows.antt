@@ -116,19 +116,3 @@ module _ {kind : LineKind} {w h : ℕ} {before d s : List ℕ} (sides : Sides w 
       where
         next : y * w + w ≡ (y + 1) * w
         next = omega arith
-
-  -- the same with the row's first cell by another name, as the loop has it
-  pub believed_at : {y : ℕ} {after d' s' : List ℕ} (at : ℕ) → at ≡ y * w
-      → Believable w h before → w * h + w + w ≤ length before → y < h → RowsMade kind w h y before after d d' s s'
-      → Believed at (w * h) after w
-  believed_at {y} {after} at e B room l R =
-      subst (λ k. Believed k (w * h) after w) (sym e) (row_believed B room l R)
-
-  pub rows_more_at : {y : ℕ} {after after' d' s' : List ℕ} (at : ℕ) (drow srow : List ℕ) → at ≡ y * w → y < h
-      → w * h ≤ length d → w * h ≤ length s → length drow ≡ w → length srow ≡ w
-      → RowsMade kind w h y before after d d' s s' → RowMade kind y at (w * h) w after after' drow srow
-      → RowsMade kind w h (y + 1) before after' d (put_mid at (at + w - at) d' drow) s (put_mid at (at + w - at) s' srow)
-  rows_more_at {y} {after} {after'} {d'} {s'} at drow srow e l d_long s_long drow_long srow_long R =
-      subst (λ k. RowMade kind y k (w * h) w after after' drow srow
-      → RowsMade kind w h (y + 1) before after' d (put_mid k (k + w - k) d' drow) s (put_mid k (k + w - k) s' srow)) (sym e)
-      (rows_more drow srow l d_long s_long drow_long srow_long R)

@@ -23,8 +23,8 @@ pub fn all_rows(
 {
     let mut line = [0u64; SIDE_LIMIT as usize];
     let tail = board.cells();
-    let mut at = 0;
     for y in 0..board.h {
+        let at = y * board.w;
         let end = at + board.w;
         row_line(
             g,
@@ -36,6 +36,5 @@ pub fn all_rows(
             &mut distances[at..end],
             &mut sites[at..end],
         );
-        at = end;
     }
 }

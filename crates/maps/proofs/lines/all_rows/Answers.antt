@@ -4,52 +4,25 @@ use native.Mathlib.Omega.{arith}
 use mathlib.Core.List.{List}
 use lib.ListN.{length, take, drop}
 use lib.Seq.{length-take-le, length_front}
-use Rattle.rules.proofs.Board.{cells_few, row_ends}
 use Rattle.rules.proofs.RowParts.{row_part_long}
 use Rattle.rows.specs.Row.{Believed, RowMade}
 use Rattle.maps.specs.Rows.{RowsMade}
-use Rattle.maps.proofs.Rows.{rows_none, believed_at, rows_more_at}
+use Rattle.maps.proofs.Rows.{rows_none, row_believed, rows_more}
 use Rattle.maps.proofs.lines.all_rows.Goals.{In-loop-y}
 use Rattle.maps.proofs.lines.all_rows.Goals as goal
 
--- the row's end is within the cells
-inside : (c : In-loop-y) → let a = c.args in c.loop-y.at + a.board.w ≤ a.board.w * a.board.h
-inside c = row_ends c.args.board.w c.loop-y.invariant.1 c.loop-y-test.true
-
 -- the line that is lent has a value for each column
 lent : (c : In-loop-y) → let w = c.args.board.w in length (take w c.loop-y.line) ≡ w
-lent c = length-take-le _ _ (omega (arith, c.loop-y.invariant.2, c.args.board.sides.width_to))
+lent c = length-take-le _ _ (omega (arith, c.loop-y.invariant.1, c.args.board.sides.width_to))
 
 -- and so have the rows of distances and sites
 lent_row : (c : In-loop-y) (l l₀ : List ℕ) → let w = c.args.board.w in
-    let n = w * c.args.board.h in
-    let at = c.loop-y.at in
-    n ≤ length l₀ → length l ≡ length l₀ → length (take (at + w - at) (drop at l)) ≡ w
-lent_row c l l₀ room long = row_part_long l c.loop-y.invariant.1 c.loop-y-test.true (omega arith)
+    let at = c.loop-y.y * w in
+    w * c.args.board.h ≤ length l₀ → length l ≡ length l₀ → length (take (at + w - at) (drop at l)) ≡ w
+lent_row c l l₀ room long = row_part_long l refl c.loop-y-test.true (omega arith)
 
 pub loop-y-init : goal.loop-y-init
-loop-y-init c = (rows_none _ _ _, omega arith, refl)
-
-pub overflow_add-end : goal.overflow_add-end
-overflow_add-end c = omega (arith, inside (goal.at.overflow_add-end c).In-loop-y, cells_few c.args.board.sides)
-
-pub slice_bounds-line-end : goal.slice_bounds-line-end
-slice_bounds-line-end c = omega (arith, c.loop-y.invariant.2, c.args.board.sides.width_to)
-
-pub slice_bounds-row_line-end : goal.slice_bounds-row_line-end
-slice_bounds-row_line-end c = sym (lent (goal.at.slice_bounds-row_line-end c).In-loop-y)
-
-pub offset_bounds-distances-at : goal.offset_bounds-distances-at
-offset_bounds-distances-at c = omega (arith, inside (goal.at.offset_bounds-distances-at c).In-loop-y, cells_few c.args.board.sides)
-
-pub slice_bounds-row_line-end-in-loop-y : goal.slice_bounds-row_line-end-in-loop-y
-slice_bounds-row_line-end-in-loop-y c = omega (arith, inside (goal.at.slice_bounds-row_line-end-in-loop-y c).In-loop-y, c.requires.0, c.loop-y.invariant.0.distances_beyond.as_long)
-
-pub offset_bounds-sites-at : goal.offset_bounds-sites-at
-offset_bounds-sites-at c = omega (arith, inside (goal.at.offset_bounds-sites-at c).In-loop-y, cells_few c.args.board.sides)
-
-pub slice_bounds-row_line-end-in-loop-y-2 : goal.slice_bounds-row_line-end-in-loop-y-2
-slice_bounds-row_line-end-in-loop-y-2 c = omega (arith, inside (goal.at.slice_bounds-row_line-end-in-loop-y-2 c).In-loop-y, c.requires.1, c.loop-y.invariant.0.sites_beyond.as_long)
+loop-y-init c = (rows_none _ _ _, refl)
 
 pub row_line-requires : goal.row_line-requires
 row_line-requires c =
@@ -58,8 +31,8 @@ row_line-requires c =
     let i = c.loop-y.invariant in
     let w = lent (goal.at.row_line-requires c).In-loop-y in (
       rw c.cells-tail.ensures
-          (subst (Believed c.loop-y.at (a.board.w * a.board.h) c.loop-y.scratch) (sym w)
-          (believed_at a.board.sides c.loop-y.at i.1 p.3 p.2 c.loop-y-test.true i.0)),
+          (subst (Believed (c.loop-y.y * a.board.w) (a.board.w * a.board.h) c.loop-y.scratch) (sym w)
+          (row_believed a.board.sides p.3 p.2 c.loop-y-test.true i.0)),
       omega (arith, c.loop-y-test.true, a.board.sides.height_to),
       lent_row (goal.at.row_line-requires c).In-loop-y c.loop-y.distances a.distances.now p.0 i.0.distances_beyond.as_long ∙ sym w,
       lent_row (goal.at.row_line-requires c).In-loop-y c.loop-y.sites a.sites.now p.1 i.0.sites_beyond.as_long ∙ sym w,
@@ -71,7 +44,7 @@ loop-y-preserved c =
     let a = c.args in
     let p = c.requires in
     let i = c.loop-y.invariant in
-    let at = c.loop-y.at in
+    let at = c.loop-y.y * a.board.w in
     let d = r.new.distances in
     let s = r.new.sites in
     let d_long = r.auto.distances
@@ -80,19 +53,9 @@ loop-y-preserved c =
     ∙ lent_row (goal.at.loop-y-preserved c).In-loop-y c.loop-y.sites a.sites.now p.1 i.0.sites_beyond.as_long in
     let made = subst (λ n. RowMade a.g.now.kind c.loop-y.y at (a.board.w * a.board.h) n c.loop-y.scratch
     r.new.scratch d s) (lent (goal.at.loop-y-preserved c).In-loop-y) (rw c.cells-tail.ensures at r.ensures) in (
-      rows_more_at a.board.sides at d s i.1 c.loop-y-test.true p.0 p.1 d_long s_long i.0 made,
-      omega arith,
-      length_front c.loop-y.line r.new.values a.board.w r.auto.values ∙ i.2,
+      rows_more a.board.sides d s c.loop-y-test.true p.0 p.1 d_long s_long i.0 made,
+      length_front c.loop-y.line r.new.values a.board.w r.auto.values ∙ i.1,
     )
-
-pub shape_of-distances : goal.shape_of-distances
-shape_of-distances c = c.loop-y.invariant.0.distances_beyond.as_long
-
-pub shape_of-sites : goal.shape_of-sites
-shape_of-sites c = c.loop-y.invariant.0.sites_beyond.as_long
-
-pub shape_of-scratch : goal.shape_of-scratch
-shape_of-scratch c = c.loop-y.invariant.0.scratch_beyond.as_long
 
 pub returns : goal.returns
 returns c =

@@ -88,8 +88,8 @@ pub fn row_lines(
         distances.old distances.new sites.old sites.new (stop_number result.stop) result.next }
 {
     let mut line = [0u64; SIDE_LIMIT as usize];
-    let mut at = from * board.w;
     for y in from..to {
+        let at = y * board.w;
         let row = one_row(
             g,
             board,
@@ -100,12 +100,9 @@ pub fn row_lines(
             &mut distances[at..at + board.w],
             &mut sites[at..at + board.w],
         );
-        match row {
-            Ok(()) => at += board.w,
-            Err(refusal) => {
-                let stop = Some(refusal);
-                return Ended { stop, next: y };
-            }
+        if let Err(refusal) = row {
+            let stop = Some(refusal);
+            return Ended { stop, next: y };
         }
     }
     let stop = None;

@@ -1,9 +1,9 @@
-use mathlib.Core.Path.{refl, ◌∙◌}
+use mathlib.Core.Path.{refl, ◌∙◌, ap}
 use mathlib.Core.Logic.{◌≢◌}
 use Prim.Native.Nat.{◌<◌}
 use native.Mathlib.Omega.{arith}
 use lib.Seq.{length_front}
-use Rattle.rules.specs.Answers.{refusal_number}
+use Rattle.rules.specs.Answers.{number_of, refusal_number}
 use Rattle.rules.proofs.Pinned.{not_zero}
 use Rattle.slice_lines.proofs.Rows.{once_number, rows_stay, rows_more}
 use Rattle.slice_lines.proofs.row_by_row.row_lines.Goals as goal
@@ -17,9 +17,9 @@ returns-in-Err c =
     record {
       from_in = omega arith;
       to_in = omega arith;
-      done = rows_stay _ i.done i.at_is row_in O some refl refl;
+      done = rows_stay _ i.done refl row_in O some refl refl;
       all_done = λ e. absurd (omega arith);
-      stopped = λ _. (once_number _ i.done i.at_is row_in O, some);
+      stopped = λ _. (once_number _ i.done refl row_in O, some);
     }
 
 pub loop-y-preserved : goal.loop-y-preserved
@@ -29,8 +29,7 @@ loop-y-preserved c =
     let made = c.one_row-row in
     let row_in : c.loop-y.y < c.args.board.h = omega arith in
     record {
-      done = rows_more _ i.done i.at_is row_in c.in-Ok.ensures refl (omega arith)
+      done = rows_more _ i.done refl row_in made.ensures (ap number_of c.in_default.is) (omega arith)
           p.distances_from p.sites_from made.auto.distances made.auto.sites;
-      at_is = omega arith;
       line_long = length_front c.loop-y.line made.new.values c.args.board.w made.auto.values ∙ i.line_long;
     }

@@ -1,7 +1,6 @@
 -- `slice_lines::row_by_row::row_lines` meets its contract. The loop's invariant: the row lines before y are done, and
--- `at` is the number of row y's first cell. Assumes nothing.
+-- the line keeps its length. Assumes nothing.
 use mathlib.Core.Path.{◌≡◌}
-use Prim.Native.Nat.{◌*◌}
 use lib.ListN.{length}
 use Rattle.rules.specs.Answers.{kind_number}
 use Rattle.rules.specs.Limits.{side_limit}
@@ -12,6 +11,5 @@ abbrev pub invariant-loop-y : goal.invariant-loop-y
 invariant-loop-y l = record {
   done : RowsDone (kind_number l.g.kind) l.board.w l.board.h l.from l.y l.initial.scratch l.scratch
       l.initial.distances l.distances l.initial.sites l.sites;
-  at_is : l.at ≡ l.y * l.board.w;
   line_long : length l.line ≡ side_limit;
 }

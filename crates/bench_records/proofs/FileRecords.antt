@@ -31,7 +31,7 @@ four (a ∷ b ∷ c ∷ d ∷ e ∷ rest) h = absurd (omega arith)
 
 module _ (first left : List ℕ) (whole : length first ≡ 4) where
   -- 11 holds of the list by this record or by what is left
-  off_board_record : off_board (first ++ left)
+  pub off_board_record : off_board (first ++ left)
       ≡ (leb bench_side (column_of first) || leb bench_side (row_of first) || off_board left)
   off_board_record = ap (λ bytes. off_board (bytes ++ left)) (four first whole)
 

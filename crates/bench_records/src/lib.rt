@@ -33,14 +33,10 @@ fn coordinate(low: u8, high: u8) -> usize
 pub fn off_board(file: &[u8]) -> bool
     ensures { result ≡ off_board file.now }
 {
-    for record in file.chunks_exact(4) {
-        let x = coordinate(record[0], record[1]);
-        let y = coordinate(record[2], record[3]);
-        if BOARD_SIDE <= x || BOARD_SIDE <= y {
-            return true;
-        }
-    }
-    false
+    file.chunks_exact(4).any(|record| {
+        BOARD_SIDE <= coordinate(record[0], record[1])
+            || BOARD_SIDE <= coordinate(record[2], record[3])
+    })
 }
 
 // Bores one cell, and answers whether it was sound, so that a repeated record counts once.

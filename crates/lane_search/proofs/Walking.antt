@@ -1,94 +1,109 @@
 -- The walk down the labels, event by event. From a cell the sides are tried in their order: one of them leads one label
 -- down, and since the cells on the sides have rising numbers the first that does is the least. The walk writes each cell
 -- that it comes to, and its label and the number of cells written make one more than the first label. Assumes nothing.
-use mathlib.Core.Path.{◌≡◌, ◌∙◌, sym, ap, subst, subst₂}
-use mathlib.Core.Logic.{◌≢◌, by_cases}
+use mathlib.Core.Path.{◌≡◌, refl, ◌∙◌, sym, ap, subst₂}
+use mathlib.Core.Logic.{by_cases}
+use mathlib.Core.Bool.{true}
 use mathlib.Core.List.{List}
-use Prim.Native.Nat.{ℕ, ◌+◌, ◌-◌, ◌≤◌, ◌<◌}
-use native.Mathlib.Decide.{dec_lt, dec_le, ℕ_discrete}
+use Prim.Native.Nat.{ℕ, zero, suc, ◌+◌, ◌-◌, ◌≤◌, ◌<◌}
+use native.Mathlib.Decide.{dec_lt, dec_le}
 use native.Mathlib.Omega.{arith}
 use lib.ListN.{length, set, length-set}
 use lib.Seq.{get_or-set_same, get_or-set_other}
+use Rattle.std.proofs.Common.{Option, None, Some, Bor, slice_index_or}
+use Rattle.std.specs.Option.{IfSome, IsSomeAnd, MatchOption, option_map}
+use Rattle.std.specs.Fn.{Called, Mut}
+use Rattle.std.specs.Iterator.Runs.{Run, SomeRun, CallKeepsClosure, AllItemsGive, IsFirstToGive, ItemsMapTo}
+use Rattle.std.proofs.lemmas.Option.{none-some, same_Some}
 use Rattle.rules.specs.Lane.{Neighbours}
-use Rattle.std.proofs.Common.{Option, Some}
-use Rattle.lane_flood.specs.Around.{Lies, Beside}
+use Rattle.lane_flood.specs.declared.sides.Side.{Side}
+use Rattle.lane_flood.specs.declared.sides.Side.TheVariants.{Above}
+use Rattle.lane_flood.specs.declared.sides.TheConstants.{SIDES}
+use Rattle.lane_flood.specs.Around.{side_number, Lies}
 use Rattle.lane_flood.specs.Labelling.{at, Descending}
 use Rattle.lane_search.specs.Course.{Down}
 use Rattle.lane_flood.proofs.Around.{around, lies_near, lies_rising}
 
--- the sides of c before k do not lead to the label l, and one from k on does
-pub record Seeking (w n : ℕ) (label : ℕ → ℕ) (c l k : ℕ) : Type 0 where
-  pub passed : (j p : ℕ) → j < k → p < n → Lies w c j p → label p ≢ l
-  pub side : ℕ
-  pub side_from : k ≤ side
-  pub side_in : side < 4
-  pub cell : ℕ
-  pub cell_in : cell < n
-  pub lies : Lies w c side cell
-  pub leads : label cell ≡ l
+-- the answer is the cell on side k of c where it leads to the label l, and none where it does not
+pub record Leads (w n : ℕ) (label : ℕ → ℕ) (c l k : ℕ) (answer : Option ℕ) : Type 0 where
+  pub lies : IfSome answer (λ p. (p < n) × Lies w c k p × (label p ≡ l))
+  pub only : (q : ℕ) → q < n → Lies w c k q → label q ≡ l → answer ≡ Some q
 
-module _ {w n : ℕ} {label : ℕ → ℕ} {c : ℕ} (pos : 0 < w) where
-  -- no side is tried yet
-  pub seek_begins : c < n → 1 < label c → Descending w n label → Seeking w n label c (label c - 1) 0
-  seek_begins inside more D =
-      let (q, q_in, near, is) = D.lesser c inside more in
-      let (k, k_in, lies) = around w c q pos near in
-      record {
-        passed = λ j p h. absurd (omega arith);
-        side = k;
-        side_from = omega arith;
-        side_in = k_in;
-        cell = q;
-        cell_in = q_in;
-        lies = lies;
-        leads = omega arith;
-      }
+-- the item at a place is the side at that place of the list
+item_is : (P : Bor Side → Type 0) (o : Option (Bor Side)) (side : Side) → option_map (λ y. y.now) o ≡ Some side
+    → IfSome o P → (x : Bor Side) × (x.now ≡ side) × P x
+item_is P None side e h = absurd (none-some side e)
+item_is P (Some x) side e h = (x, same_Some x.now side e, h)
 
-  module _ {l k : ℕ} {answer : Option ℕ} (S : Seeking w n label c l k) (B : Beside w n c k answer) where
-    -- side k does not lead there
-    pub seek_on : ((p : ℕ) → answer ≡ Some p → label p ≢ l) → Seeking w n label c l (k + 1)
-    seek_on miss =
-        record {
-          passed = passed;
-          side = S.side;
-          side_from = by_cases (ℕ_discrete k S.side) (λ e. absurd (meets e)) (λ o. omega (arith, S.side_from));
-          side_in = S.side_in;
-          cell = S.cell;
-          cell_in = S.cell_in;
-          lies = S.lies;
-          leads = S.leads;
-        }
-      where
-        meets : k ≡ S.side → ⊥
-        meets e =
-            let here : Lies w c k S.cell = subst (λ j. Lies w c j S.cell) (sym e) S.lies in
-            miss S.cell (B.only S.cell S.cell_in here) S.leads
+-- what holds of an item that is there holds of it if it is
+item_there : (P : Bor Side → Type 0) (o : Option (Bor Side)) → IsSomeAnd o P → IfSome o P
+item_there P None h = absurd h
+item_there P (Some x) h = h
 
-        passed : (j q : ℕ) → j < k + 1 → q < n → Lies w c j q → label q ≢ l
-        passed j q h q_in lies =
-            by_cases (dec_lt j k) (λ b. S.passed j q b q_in lies)
-            (λ o.
-            let same : j ≡ k = omega arith in
-            miss q (B.only q q_in (subst (λ i. Lies w c i q) same lies)))
+-- the side at place k of the list has the number k
+side_place : (k : ℕ) → k < 4 → side_number (slice_index_or SIDES k Above) ≡ k
+side_place zero h = refl
+side_place (suc zero) h = refl
+side_place (suc (suc zero)) h = refl
+side_place (suc (suc (suc zero))) h = refl
+side_place (suc (suc (suc (suc k)))) h = absurd (omega arith)
 
-    -- side k leads there
-    pub seek_ends : {p : ℕ} → answer ≡ Some p → label p ≡ l → l + 1 ≡ label c → Down w n label c p
-    seek_ends {p} some is one =
-        record {
-          inside = there.0;
-          near = lies_near w c p k pos there.1;
-          lesser = omega arith;
-          least = least;
-        }
-      where
-        there : (p < n) × Lies w c k p
-        there = rw some at B.lies
+module _ {w n : ℕ} {label : ℕ → ℕ} {c : ℕ} {S F : Type 0} {steps : S → Option (Bor Side) → S → Type 0}
+    {g : Mut F (Bor Side × Unit {0}) (Option ℕ)} {f : F} (pos : 0 < w) (inside : c < n) (more : 1 < label c)
+    (D : Descending w n label)
+  where
+    module _ (keeps : CallKeepsClosure g f)
+        (told : (x : Bor Side) (o : Option ℕ) → Called g f (x, tt) o f
+        → Leads w n label c (label c - 1) (side_number x.now) o)
+        (p : Run steps) (items : ItemsMapTo p (λ y. y.now) SIDES) where
+      -- what the call at place k answered
+      told_at : (o : Option ℕ) (k : ℕ) → k < p.len → IfSome (p.at k) (λ x. Called g f (x, tt) o f)
+          → Leads w n label c (label c - 1) k o
+      told_at o k h call =
+          let (x, is, done) = item_is (λ x. Called g f (x, tt) o f) (p.at k) _ (items.2 k Above h) call in
+          let there = told x o done in
+          rw (is, side_place k (omega (arith, items.0))) at there
 
-        least : (r : ℕ) → r < n → Neighbours w c r → label r + 1 ≡ label c → p ≤ r
-        least r r_in near e =
-            let (j, j_in, lies) = around w c r pos near in
-            by_cases (dec_le k j) (λ b. lies_rising w c p r k j pos b there.1 lies)
-            (λ o. absurd (S.passed j r (omega arith) r_in lies (omega arith)))
+      -- some side leads one label down
+      some_leads : p.whole ≡ true → AllItemsGive p g f None → ⊥
+      some_leads whole none =
+          let (q, q_in, near, is) = D.lesser c inside more in
+          let (k, k_in, lies) = around w c q pos near in
+          let there = told_at None k (omega (arith, items.1 whole)) (none keeps k) in
+          none-some q (there.only q q_in lies (omega arith))
+
+      -- the first that does leads to the least
+      first_leads : (y i : ℕ) → i < p.len → IsFirstToGive p g f (Some y) None i → Down w n label c y
+      first_leads y i h first =
+          let here = told_at (Some y) i h (item_there (λ x. Called g f (x, tt) (Some y) f) (p.at i) (first keeps).0) in
+          record {
+            inside = here.lies.0;
+            near = lies_near w c y i pos here.lies.1;
+            lesser = omega (arith, here.lies.2, more);
+            least = least here.lies.1;
+          }
+        where
+          before : (j : ℕ) → j < i → Leads w n label c (label c - 1) j None
+          before j b =
+              told_at None j (omega arith) (item_there (λ x. Called g f (x, tt) None f) (p.at j) ((first keeps).1 j b))
+
+          least : Lies w c i y → (r : ℕ) → r < n → Neighbours w c r → label r + 1 ≡ label c → y ≤ r
+          least lies r r_in near e =
+              let (j, j_in, beside) = around w c r pos near in
+              by_cases (dec_le i j) (λ b. lies_rising w c y r i j pos b lies beside)
+              (λ o. absurd (none-some r ((before j (omega arith)).only r r_in beside (omega arith))))
+
+    -- so a search of the four finds the cell to go to
+    pub side_found : {s : S} (o : Option ℕ)
+        → SomeRun steps s (λ p. MatchOption o ((p.whole ≡ true) × AllItemsGive p g f None)
+        (λ y. (i : ℕ) × (i < p.len) × (p.len ≡ i + 1) × IsFirstToGive p g f (Some y) None i))
+        → ((p : Run steps) → p.from ≡ s → ItemsMapTo p (λ y. y.now) SIDES) → CallKeepsClosure g f
+        → ((x : Bor Side) (o : Option ℕ) → Called g f (x, tt) o f
+        → Leads w n label c (label c - 1) (side_number x.now) o)
+        → IsSomeAnd o (Down w n label c)
+    side_found None (p, from, none) items keeps told = absurd (some_leads keeps told p (items p from) none.0 none.1)
+    side_found (Some y) (p, from, some) items keeps told =
+        first_leads keeps told p (items p from) y some.0 some.1 some.3
 
 -- the first i path words are written, and the last of them is c
 pub record Walking (w n : ℕ) (label : ℕ → ℕ) (from cells : ℕ) (path : List ℕ) (c i : ℕ) : Type 0 where

@@ -17,15 +17,10 @@ fn next(w: usize, c: usize, labels: &[u32]) -> usize
     let n = labels.len();
     let label = labels[c] - 1;
     let x = c % w;
-    for side in SIDES {
-        let Some(p) = beside(w, n, x, c, side) else {
-            continue;
-        };
-        if labels[p] == label {
-            return p;
-        }
-    }
-    unreachable!()
+    SIDES
+        .iter()
+        .find_map(|&side| beside(w, n, x, c, side).filter(|&p| labels[p] == label))
+        .unwrap()
 }
 
 // The walk from the cell `from`. Answers how many cells it has.

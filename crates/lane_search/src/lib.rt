@@ -8,7 +8,7 @@ ghost use Rattle.lane_flood.specs.Labelling.{at};
 ghost use Rattle.lane_search.specs.Course.{Laid};
 
 use crate::walk::walk;
-use crate::widths::width_of;
+use crate::widths::Asked;
 use lane_flood::flood;
 use rules::MARK;
 use rules::answers::Course;
@@ -32,7 +32,8 @@ pub fn best_lane(
     ensures { Laid w (length words.now) (at words.now) from to result.width result.cells
         labels.new path.new }
 {
-    let width = width_of(w, from, to, words, labels, path);
+    let asked = Asked { w, words, from, to };
+    let width = asked.width(labels, path);
     flood(w, width, to, words, labels, path);
     let cells = walk(w, from, labels, path);
     set_all(labels, 0);

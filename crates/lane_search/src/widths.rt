@@ -6,48 +6,43 @@ ghost use Rattle.lane_search.specs.Course.{AsWide, Between};
 
 use lane_flood::flood;
 
-// Whether a flood from `to` over the cells of at least v reaches `from`.
-fn reaches(
-    w: usize,
-    v: u32,
-    from: usize,
-    to: usize,
-    words: &[u32],
-    labels: &mut [u32],
-    queue: &mut [u32],
-) -> bool
-    requires lists { Lists w words.now labels.old queue.old }
-    requires from_inside { from < length words.now }
-    requires to_inside { to < length words.now }
-    ensures { AsWide w (length words.now) (at words.now) from to v result }
-{
-    flood(w, v, to, words, labels, queue);
-    0 < labels[from]
+// What is asked: how wide a lane is from one cell to another, over the words of cells that lie in rows of w.
+#[derive(Clone, Copy)]
+pub struct Asked<'a> {
+    pub w: usize,
+    pub words: &'a [u32],
+    pub from: usize,
+    pub to: usize,
+    ghost from_inside: { from < length words.now },
+    ghost to_inside: { to < length words.now },
 }
 
-// The width of the widest lane.
-pub fn width_of(
-    w: usize,
-    from: usize,
-    to: usize,
-    words: &[u32],
-    labels: &mut [u32],
-    queue: &mut [u32],
-) -> u32
-    requires lists { Lists w words.now labels.old queue.old }
-    requires from_inside { from < length words.now }
-    requires to_inside { to < length words.now }
-    ensures { Between w (length words.now) (at words.now) from to result result }
-{
-    let mut low = 0;
-    let mut high = words[from].min(words[to]);
-    while low < high {
-        let middle = low + (high - low) / 2 + 1;
-        if reaches(w, middle, from, to, words, labels, queue) {
-            low = middle;
-        } else {
-            high = middle - 1;
-        }
+impl Asked<'_> {
+    // Whether a flood from `to` over the cells of at least v reaches `from`.
+    fn reaches(&self, v: u32, labels: &mut [u32], queue: &mut [u32]) -> bool
+        requires { Lists self.now.w self.now.words.now labels.old queue.old }
+        ensures { let a = self.now in AsWide a.w (length a.words.now) (at a.words.now) a.from a.to v result }
+    {
+        flood(self.w, v, self.to, self.words, labels, queue);
+        0 < labels[self.from]
     }
-    low
+
+    // The width of the widest lane.
+    pub fn width(&self, labels: &mut [u32], queue: &mut [u32]) -> u32
+        requires { Lists self.now.w self.now.words.now labels.old queue.old }
+        ensures { let a = self.now in
+            Between a.w (length a.words.now) (at a.words.now) a.from a.to result result }
+    {
+        let mut low = 0;
+        let mut high = self.words[self.from].min(self.words[self.to]);
+        while low < high {
+            let middle = low + (high - low) / 2 + 1;
+            if self.reaches(middle, labels, queue) {
+                low = middle;
+            } else {
+                high = middle - 1;
+            }
+        }
+        low
+    }
 }

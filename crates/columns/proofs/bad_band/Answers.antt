@@ -19,4 +19,4 @@ returns c =
     band_is band.board.h c.any.result
     (cases_from_any _ _ _ (RowBad band.board.w band.from band.to c.args.picture.now) (RowGood band.board.w band.from band.to c.args.picture.now)
     c.any.ensures.ran (YieldsList-from_range 0 band.board.h band.board.h refl (omega arith))
-    (λ y q k. search (rules, tests)) (λ y q k. search (rules, tests)))
+    (λ y q k. search (rules, tests)) (λ y q k. (search rules, search (rules, tests))))

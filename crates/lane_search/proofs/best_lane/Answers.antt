@@ -8,12 +8,12 @@ use Rattle.lane_search.proofs.best_lane.Goals as goal
 pub walk-cells-requires-clause-labelled : goal.walk-cells-requires-clause-labelled
 walk-cells-requires-clause-labelled c =
     let p = c.requires in
-    width_reached p.lists.board.rows p.lists.board.whole c.width_of-width.ensures c.flood.ensures
+    width_reached p.lists.board.rows p.lists.board.whole c.width-width.ensures c.flood.ensures
 
 pub returns : goal.returns
 returns c =
     let p = c.requires in
     let lists : Lists c.args.w c.args.words.now c.flood.new.labels c.walk-cells.new.path =
     record { board = p.lists.board; labels_long = omega arith; queue_long = omega arith } in
-    laid lists p.from_inside c.width_of-width.ensures c.flood.ensures c.walk-cells.ensures c.set_all-2.new.words
+    laid lists p.from_inside c.width-width.ensures c.flood.ensures c.walk-cells.ensures c.set_all-2.new.words
     c.set_all.ensures c.set_all-2.auto.words c.set_all-2.ensures

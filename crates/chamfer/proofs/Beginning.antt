@@ -13,8 +13,7 @@ use Rattle.rules.specs.Limits.{side_limit, weight_limit}
 use Rattle.rules.specs.Measures.{Weights, chamfer}
 use Rattle.rules.specs.Accepted.{Somewhere}
 use Rattle.rules.proofs.Table.{Walk, start, least}
-use Rattle.chamfer_turn.specs.declared.weighted.Chamfer.{Chamfer}
-use Rattle.chamfer_turn.specs.Neighbours.{far, Words, On, word}
+use Rattle.chamfer_turn.specs.Neighbours.{Weighed, far, Words, On, word}
 use Rattle.chamfer.specs.Scans.{first_word, Begun}
 use Rattle.chamfer_turn.proofs.Cells.{has_word}
 use Rattle.chamfer.proofs.Bounds.{Bore, Held, Bounded}
@@ -44,7 +43,7 @@ first_most : (byte : ℕ) → first_word byte ≤ far
 first_most byte =
     by_cases (ℕ_discrete byte 1) (λ e. rw e (omega arith)) (λ n. omega (arith, sound_first byte n))
 
-module _ {b : Chamfer} {picture words : List ℕ} (B : Begun picture words)
+module _ {b : Weighed} {picture words : List ℕ} (B : Begun picture words)
     (one_each : length words ≡ b.board.w * b.board.h) where
   -- the words before the scans
   pub first_words : Words b words
@@ -61,7 +60,7 @@ module _ {b : Chamfer} {picture words : List ℕ} (B : Begun picture words)
   at_cell : {x y : ℕ} → On b x y → word b words x y ≡ first_word (get_or picture (cell b.board.w x y) 0)
   at_cell on = B.first _ (has_word first_words on)
 
-  module _ (some : Somewhere b.board.w b.board.h (Bored b.board.w picture)) where
+  module _ (weights : Weights b.d1 b.d2) (some : Somewhere b.board.w b.board.h (Bored b.board.w picture)) where
     -- the bore that there is
     a_bore : Bore b picture some.0 some.1
     a_bore = record { on_board = record { column_in = some.2; row_in = some.3 }; bored = some.4 }
@@ -76,7 +75,7 @@ module _ {b : Chamfer} {picture words : List ℕ} (B : Begun picture words)
           i = x;
           j = y;
           bore = record { on_board = on; bored = e };
-          no_farther = rw (at_cell on, e) (least b.weights home);
+          no_farther = rw (at_cell on, e) (least weights home);
         })
         (λ n.
         record {
@@ -85,7 +84,7 @@ module _ {b : Chamfer} {picture words : List ℕ} (B : Begun picture words)
           bore = a_bore;
           no_farther =
               rw (at_cell on, sound_first (get_or picture (cell b.board.w x y) 0) n)
-              (below_far b.weights (within_limit x some.0 on.column_in some.2 b.board.sides.width_to)
+              (below_far weights (within_limit x some.0 on.column_in some.2 b.board.sides.width_to)
               (within_limit y some.1 on.row_in some.3 b.board.sides.height_to));
         })
 

@@ -7,20 +7,19 @@ use Prim.Native.Nat.{ℕ, zero, suc, ◌+◌, ◌≤◌}
 use Rattle.rules.specs.Board.{Bored}
 use Rattle.rules.specs.Measures.{chamfer_kind}
 use Rattle.rules.specs.Tie.{bore_word}
-use Rattle.chamfer_turn.specs.declared.weighted.Chamfer.{Chamfer}
-use Rattle.chamfer_turn.specs.Neighbours.{On, word}
+use Rattle.chamfer_turn.specs.Neighbours.{Weighed, On, word}
 
 -- the cell (i, j) of the board is bored
-pub record Bore (b : Chamfer) (picture : List ℕ) (i j : ℕ) : Type 0 where
+pub record Bore (b : Weighed) (picture : List ℕ) (i j : ℕ) : Type 0 where
   pub on_board : On b i j
   pub bored : Bored b.board.w picture i j
 
 -- the closed form between (x, y) and (i, j)
-abbrev pub apart : Chamfer → ℕ → ℕ → ℕ → ℕ → ℕ
+abbrev pub apart : Weighed → ℕ → ℕ → ℕ → ℕ → ℕ
 apart b x y i j = bore_word chamfer_kind b.d1 b.d2 x y i j
 
 -- some bore is no farther from (x, y) than v
-pub record Held (b : Chamfer) (picture : List ℕ) (x y v : ℕ) : Type 0 where
+pub record Held (b : Weighed) (picture : List ℕ) (x y v : ℕ) : Type 0 where
   pub i : ℕ
   pub j : ℕ
   pub bore : Bore b picture i j
@@ -35,7 +34,7 @@ Come (suc (suc n)) i j x y = Unit {0}
 
 -- the words after so many scans: none below the least closed form to a bore, and none above the closed form to a bore
 -- whose word has come
-pub record Bounded (b : Chamfer) (picture words : List ℕ) (scans : ℕ) : Type 0 where
+pub record Bounded (b : Weighed) (picture words : List ℕ) (scans : ℕ) : Type 0 where
   pub never_less : (x y : ℕ) → On b x y → Held b picture x y (word b words x y)
   pub never_more : (i j : ℕ) → Bore b picture i j → (x y : ℕ) → On b x y → Come scans i j x y
       → word b words x y ≤ apart b x y i j

@@ -6,19 +6,19 @@ use mathlib.Core.Logic.{⊎_elim}
 use mathlib.Core.List.{List}
 use Prim.Native.Nat.{ℕ, suc, ◌+◌, ◌*◌, ◌≤◌, ◌<◌}
 use native.Mathlib.Omega.{arith}
+use Rattle.rules.specs.Measures.{Weights}
 use Rattle.rules.specs.Table.{step, none}
 use Rattle.rules.specs.declared.Choice.TheVariants.{D1}
 use Rattle.rules.proofs.Board.{cell_in}
 use Rattle.rules.proofs.Table.{step_listed, never_too_small}
-use Rattle.chamfer_turn.specs.declared.weighted.Chamfer.{Chamfer}
-use Rattle.chamfer_turn.specs.Neighbours.{On, word, Lowest}
+use Rattle.chamfer_turn.specs.Neighbours.{Weighed, On, word, Lowest}
 use Rattle.chamfer.specs.Scans.{Scan}
 use Rattle.chamfer.proofs.Order.{along}
 use Rattle.chamfer.proofs.Bounds.{Bore, apart, Held, Come, Bounded}
 use Rattle.chamfer.proofs.Nearer.{nearer}
 
-module _ {b : Chamfer} (scan : ℕ) {picture before after : List ℕ} (scan_in : scan < 2)
-    (S : Scan b (4 * scan) (4 * scan + 4) before after) (R : Bounded b picture before scan) where
+module _ {b : Weighed} (scan : ℕ) {picture before after : List ℕ} (scan_in : scan < 2)
+    (weights : Weights b.d1 b.d2) (S : Scan b (4 * scan) (4 * scan + 4) before after) (R : Bounded b picture before scan) where
   -- a cell has the least of its own word before and of what its neighbours by the scan's steps offer
   lowest : (x y : ℕ) → On b x y
       → Lowest b after x y (4 * scan) (4 * scan + 4) (word b before x y) (word b after x y)
@@ -33,7 +33,7 @@ module _ {b : Chamfer} (scan : ℕ) {picture before after : List ℕ} (scan_in :
       (λ o.
       let near = nearby o.k o.x' o.y' o.step_from o.step_to o.neighbour in
       let listed = step_listed o.k (step none none D1) (omega (arith, o.step_to)) in
-      let change = never_too_small near.i near.j b.weights listed o.neighbour.leads in
+      let change = never_too_small near.i near.j weights listed o.neighbour.leads in
       record { i = near.i; j = near.j; bore = near.bore; no_farther = omega (arith, change.0, o.offer_is) })
       (lowest x y on).made)
 

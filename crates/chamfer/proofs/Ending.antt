@@ -8,13 +8,12 @@ use native.Mathlib.Omega.{arith}
 use lib.ListN.{length, drop_of_length-le}
 use Rattle.rules.specs.Measures.{chamfer_kind}
 use Rattle.rules.specs.Tie.{MapWord}
-use Rattle.chamfer_turn.specs.declared.weighted.Chamfer.{Chamfer}
-use Rattle.chamfer_turn.specs.Neighbours.{On, word}
+use Rattle.chamfer_turn.specs.Neighbours.{Weighed, On, word}
 use Rattle.chamfer.specs.Scans.{Scanned}
 use Rattle.chamfer.proofs.Bounds.{Bounded}
 
 -- after both scans each word is the least of the closed form
-map_word : {b : Chamfer} {picture words : List ℕ} {x y : ℕ}
+map_word : {b : Weighed} {picture words : List ℕ} {x y : ℕ}
     → Bounded b picture words 2
     → On b x y
     → MapWord chamfer_kind b.d1 b.d2 b.board.w b.board.h picture x y (word b words x y)
@@ -32,7 +31,7 @@ map_word {x} {y} R on =
     }
 
 -- the map is made in the board's words, and there are no others
-pub mapped : {b : Chamfer} {picture before after : List ℕ}
+pub mapped : {b : Weighed} {picture before after : List ℕ}
     → Bounded b picture after 2
     → length after ≡ b.board.w * b.board.h
     → length before ≡ b.board.w * b.board.h

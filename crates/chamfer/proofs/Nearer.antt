@@ -11,8 +11,7 @@ use lib.IntN.{pos, ◌+ℤ◌}
 use Rattle.rules.specs.Board.{away}
 use Rattle.rules.specs.Measures.{chamfer}
 use Rattle.rules.specs.Table.{weight}
-use Rattle.chamfer_turn.specs.declared.weighted.Chamfer.{Chamfer}
-use Rattle.chamfer_turn.specs.Neighbours.{On, printed, Neighbour}
+use Rattle.chamfer_turn.specs.Neighbours.{Weighed, On, printed, Neighbour}
 use Rattle.chamfer_turn.proofs.Moves.{one_back, no_step}
 use Rattle.chamfer.proofs.Bounds.{apart, Come}
 
@@ -42,7 +41,7 @@ turned d1 d2 dx dy =
 
 -- A step of the scan from (x, y) towards the bore (i, j): by one of its steps, to a cell (x', y') to which the bore's
 -- word comes too, with the closed form less by the step's weight.
-pub record Nearer (b : Chamfer) (scan i j x y : ℕ) : Type 0 where
+pub record Nearer (b : Weighed) (scan i j x y : ℕ) : Type 0 where
   pub k : ℕ
   pub x' : ℕ
   pub y' : ℕ
@@ -51,7 +50,7 @@ pub record Nearer (b : Chamfer) (scan i j x y : ℕ) : Type 0 where
   pub comes : Come (suc scan) i j x' y'
   pub less : apart b x' y' i j + weight b.d1 b.d2 (printed k).2 ≤ apart b x y i j
 
-module _ (b : Chamfer) (i j x y : ℕ) where
+module _ (b : Weighed) (i j x y : ℕ) where
   -- the closed form before a slanted step
   by_slanted : (x' y' : ℕ) → away x i ≡ suc (away x' i) → away y j ≡ suc (away y' j)
       → apart b x' y' i j + b.d2 ≤ apart b x y i j
@@ -137,7 +136,7 @@ module _ (b : Chamfer) (i j x y : ℕ) where
             (by_slanted (x + 1) (y + 1) (omega arith) (omega arith)))
 
 -- to a cell to which the scan brings the bore's word, it had come before or comes by such a step
-pub nearer : {b : Chamfer} (scan : ℕ) {i j x y : ℕ}
+pub nearer : {b : Weighed} (scan : ℕ) {i j x y : ℕ}
     → scan < 2
     → On b x y
     → On b i j

@@ -9,8 +9,7 @@ use lib.IntN.{pos, ◌+ℤ◌, -ℤ-+ℤ_cancel}
 use Rattle.rules.specs.Board.{cell}
 use Rattle.rules.specs.Table.{back, none, on}
 use Rattle.rules.proofs.Board.{cell_in}
-use Rattle.chamfer_turn.specs.declared.weighted.Chamfer.{Chamfer}
-use Rattle.chamfer_turn.specs.Neighbours.{On, Neighbour}
+use Rattle.chamfer_turn.specs.Neighbours.{Weighed, On, Neighbour}
 
 -- the two scans by their numbers; the steps of one are 4·scan .. 4·scan + 3
 abbrev pub forward_scan : ℕ
@@ -52,7 +51,7 @@ row_none w r at e = ap (λ n. n * w) (went_none r at e)
 row_on : (w r at : ℕ) → pos r ≡ pos at +ℤ on → r * w ≡ at * w + w
 row_on w r at e = omega (arith, ap (λ n. n * w) (went_on r at e))
 
-module _ {b : Chamfer} {x y x' y' : ℕ} (here : On b x y) where
+module _ {b : Weighed} {x y x' y' : ℕ} (here : On b x y) where
   -- a forward step leads up, or to the left
   forward_earlier : (k : ℕ) → k < 4 → Neighbour b k x y x' y' → cell b.board.w x' y' < cell b.board.w x y
   forward_earlier zero l n =
@@ -100,7 +99,7 @@ sooner zero l m e = e
 sooner (suc k) l m e = omega arith
 
 -- what holds of a cell wherever it holds of its neighbours by the scan's steps
-module _ (b : Chamfer) (scan : ℕ) (scan_in : scan < 2) (P : ℕ → ℕ → Type 0)
+module _ (b : Weighed) (scan : ℕ) (scan_in : scan < 2) (P : ℕ → ℕ → Type 0)
     (next : (x y : ℕ) → On b x y
     → ((k x' y' : ℕ) → 4 * scan ≤ k → k < 4 * scan + 4 → Neighbour b k x y x' y' → P x' y')
     → P x y) where

@@ -10,13 +10,13 @@ use native.Mathlib.Omega.{arith}
 use lib.Seq.{ext_get_or}
 use Rattle.rules.specs.Board.{cell, column, row}
 use Rattle.rules.proofs.Board.{cell_of, column_below, row_below}
-use Rattle.chamfer_turn.specs.declared.weighted.Chamfer.{Chamfer}
-use Rattle.chamfer_turn.specs.Neighbours.{On, word, Neighbour, Lowest}
+use Rattle.rules.specs.declared.sized.Board.{Board}
+use Rattle.chamfer_turn.specs.Neighbours.{Weighed, On, word, Neighbour, Lowest}
 use Rattle.chamfer.specs.Scans.{half, whole, Settled, Scan}
 use Rattle.chamfer.proofs.Order.{forward_scan, backward_scan, along}
 
 -- a lowest word is no more than another, if the neighbours have the same words
-no_higher : {b : Chamfer} {words words' : List ℕ} {x y from to own v v' : ℕ}
+no_higher : {b : Weighed} {words words' : List ℕ} {x y from to own v v' : ℕ}
     → ((k x' y' : ℕ) → from ≤ k → k < to → Neighbour b k x y x' y' → word b words x' y' ≡ word b words' x' y')
     → Lowest b words x y from to own v
     → Lowest b words' x y from to own v'
@@ -28,7 +28,7 @@ no_higher same L L' =
     omega (arith, o.offer_is, same o.k o.x' o.y' o.step_from o.step_to o.neighbour))
     L'.made
 
-module _ {b : Chamfer} (scan : ℕ) {t u : ℕ} {before after after' : List ℕ} (scan_in : scan < 2)
+module _ {b : Weighed} (scan : ℕ) {t u : ℕ} {before after after' : List ℕ} (scan_in : scan < 2)
     (S : Settled b (4 * scan) (4 * scan + 4) t u before after)
     (S' : Settled b (4 * scan) (4 * scan + 4) t u before after') where
   -- each cell has the same word in both
@@ -56,7 +56,7 @@ module _ {b : Chamfer} (scan : ℕ) {t u : ℕ} {before after after' : List ℕ}
       (same_word (column b.board.w c) (row b.board.w c)
       (record { column_in = column_below c b.board.sides.width_from; row_in = row_below b.board.w c_in })))
 
-module _ {b : Chamfer} {before after after' : List ℕ} where
+module _ {b : Weighed} {before after after' : List ℕ} where
   -- so the forward scan is pinned
   pub forward_pinned : Scan b 0 half before after → Scan b 0 half before after' → after ≡ after'
   forward_pinned S S' = settled_pinned forward_scan (omega arith) S S'
@@ -64,3 +64,21 @@ module _ {b : Chamfer} {before after after' : List ℕ} where
   -- and the backward scan
   pub backward_pinned : Scan b half whole before after → Scan b half whole before after' → after ≡ after'
   backward_pinned S S' = settled_pinned backward_scan (omega arith) S S'
+
+-- a board with weights that no call accepts
+abbrev pub unruled : Board → Weighed
+unruled board = record { board = board; d1 = 0; d2 = 7 }
+
+-- which is no exception, in the forward scan ..
+pub unruled_forward : (board : Board) {before after after' : List ℕ}
+    → Scan (unruled board) 0 half before after
+    → Scan (unruled board) 0 half before after'
+    → after ≡ after'
+unruled_forward board S S' = forward_pinned S S'
+
+-- .. and in the backward scan
+pub unruled_backward : (board : Board) {before after after' : List ℕ}
+    → Scan (unruled board) half whole before after
+    → Scan (unruled board) half whole before after'
+    → after ≡ after'
+unruled_backward board S S' = backward_pinned S S'

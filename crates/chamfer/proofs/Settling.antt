@@ -9,14 +9,13 @@ use native.Mathlib.Omega.{arith}
 use lib.ListN.{set}
 use lib.Seq.{get_or-set_other}
 use Rattle.rules.specs.Board.{cell}
-use Rattle.chamfer_turn.specs.declared.weighted.Chamfer.{Chamfer}
-use Rattle.chamfer_turn.specs.Neighbours.{Words, On, word, Neighbour, Lowest, CellTurned}
+use Rattle.chamfer_turn.specs.Neighbours.{Weighed, Words, On, word, Neighbour, Lowest, CellTurned}
 use Rattle.chamfer.specs.Scans.{half, whole, Settled}
 use Rattle.chamfer_turn.proofs.Cells.{each_word, words_after}
 use Rattle.chamfer.proofs.Order.{forward_scan, backward_scan, Before, earlier}
 
 -- a lowest word stays the lowest while it is kept and the words of the neighbours that it is taken from are kept
-still_lowest : {b : Chamfer} {words words' : List ℕ} {x y from to own v v' : ℕ}
+still_lowest : {b : Weighed} {words words' : List ℕ} {x y from to own v v' : ℕ}
     → v' ≡ v
     → ((k x' y' : ℕ) → from ≤ k → k < to → Neighbour b k x y x' y' → word b words' x' y' ≡ word b words x' y')
     → Lowest b words x y from to own v
@@ -48,7 +47,7 @@ not_itself zero l e = omega arith
 not_itself (suc n) l e = omega arith
 
 -- a turn with the scan's own steps settles one cell
-pub one_turn : {b : Chamfer} (scan : ℕ) {x y u : ℕ} {before after : List ℕ}
+pub one_turn : {b : Weighed} (scan : ℕ) {x y u : ℕ} {before after : List ℕ}
     → scan < 2
     → u ≡ cell b.board.w x y + 1
     → Words b before
@@ -81,7 +80,7 @@ one_turn {b} scan {x} {y} {u} {before} scan_in e W here T =
     })
 
 -- the forward scan goes on from number u
-pub forward_on : {b : Chamfer} {t u v : ℕ} {before between after : List ℕ}
+pub forward_on : {b : Weighed} {t u v : ℕ} {before between after : List ℕ}
     → t ≤ u
     → u ≤ v
     → Settled b 0 half t u before between
@@ -104,7 +103,7 @@ forward_on {b} {t} {u} l m S T =
     }
 
 -- the backward scan goes on from number u down
-pub backward_on : {b : Chamfer} {t u v : ℕ} {before between after : List ℕ}
+pub backward_on : {b : Weighed} {t u v : ℕ} {before between after : List ℕ}
     → t ≤ u
     → u ≤ v
     → Settled b half whole u v before between

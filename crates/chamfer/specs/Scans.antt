@@ -6,8 +6,7 @@ use Rattle.rules.specs.Board.{cell}
 use Rattle.rules.specs.Measures.{chamfer_kind}
 use Rattle.rules.specs.Table.{forward, steps}
 use Rattle.rules.specs.Tie.{MapWord}
-use Rattle.chamfer_turn.specs.declared.weighted.Chamfer.{Chamfer}
-use Rattle.chamfer_turn.specs.Neighbours.{far, Words, On, word, Lowest}
+use Rattle.chamfer_turn.specs.Neighbours.{Weighed, far, Words, On, word, Lowest}
 
 -- "the four offsets of the forward scan and the four of the backward scan": the forward scan takes the table's steps
 -- 0 .. half − 1, the backward scan its steps half .. whole − 1
@@ -19,7 +18,7 @@ whole = length steps
 
 -- The cells with the numbers t .. u − 1 are settled by the steps from .. to − 1: each has the least of its own word before
 -- and of what its neighbours by those steps offer by their words after. Every other cell is as it was.
-pub record Settled (b : Chamfer) (from to t u : ℕ) (before after : List ℕ) : Type 0 where
+pub record Settled (b : Weighed) (from to t u : ℕ) (before after : List ℕ) : Type 0 where
   pub words : Words b after
   pub settled : (x y : ℕ) → On b x y → t ≤ cell b.board.w x y → cell b.board.w x y < u
       → Lowest b after x y from to (word b before x y) (word b after x y)
@@ -27,7 +26,7 @@ pub record Settled (b : Chamfer) (from to t u : ℕ) (before after : List ℕ) :
   pub kept_above : (x y : ℕ) → On b x y → u ≤ cell b.board.w x y → word b after x y ≡ word b before x y
 
 -- a scan by those steps is over: every cell is settled
-abbrev pub Scan : Chamfer → ℕ → ℕ → List ℕ → List ℕ → Type 0
+abbrev pub Scan : Weighed → ℕ → ℕ → List ℕ → List ℕ → Type 0
 Scan b from to before after = Settled b from to 0 (b.board.w * b.board.h) before after
 
 -- what a cell starts with: 0 if it is bored, `far` if it is sound

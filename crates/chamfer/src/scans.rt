@@ -4,7 +4,7 @@
 ghost use Rattle.std.specs.Prelude.{◌+◌, ◌*◌, ◌<◌, ◌≡◌, length};
 ghost use Rattle.rules.specs.Board.{cell, Bored};
 ghost use Rattle.rules.specs.Accepted.{Somewhere};
-ghost use Rattle.chamfer_turn.specs.Neighbours.{Words};
+ghost use Rattle.chamfer_turn.specs.Neighbours.{weighed, Words};
 ghost use Rattle.chamfer.specs.Scans.{half, whole, Settled, Scan, first_word, Begun, Scanned};
 
 use chamfer_turn::relax;
@@ -32,10 +32,10 @@ fn begin(picture: &[u8], words: &mut [u32])
 
 // One row of the forward scan, from the left.
 fn forward_row(chamfer: Chamfer, words: &mut [u32], y: usize)
-    requires words_in { Words chamfer words.old }
+    requires words_in { Words (weighed chamfer) words.old }
     requires row_in { y < chamfer.board.h }
     ensures { let w = chamfer.board.w in
-        Settled chamfer 0 half (cell w 0 y) (cell w 0 (y + 1)) words.old words.new }
+        Settled (weighed chamfer) 0 half (cell w 0 y) (cell w 0 (y + 1)) words.old words.new }
 {
     for x in 0..chamfer.board.w {
         relax(chamfer, words, x, y, 0, 4);
@@ -44,8 +44,8 @@ fn forward_row(chamfer: Chamfer, words: &mut [u32], y: usize)
 
 // The forward scan, from the top row down.
 fn forward(chamfer: Chamfer, words: &mut [u32])
-    requires { Words chamfer words.old }
-    ensures { Scan chamfer 0 half words.old words.new }
+    requires { Words (weighed chamfer) words.old }
+    ensures { Scan (weighed chamfer) 0 half words.old words.new }
 {
     for y in 0..chamfer.board.h {
         forward_row(chamfer, words, y);
@@ -54,10 +54,10 @@ fn forward(chamfer: Chamfer, words: &mut [u32])
 
 // One row of the backward scan, from the right.
 fn backward_row(chamfer: Chamfer, words: &mut [u32], y: usize)
-    requires words_in { Words chamfer words.old }
+    requires words_in { Words (weighed chamfer) words.old }
     requires row_in { y < chamfer.board.h }
     ensures { let w = chamfer.board.w in
-        Settled chamfer half whole (cell w 0 y) (cell w 0 (y + 1)) words.old words.new }
+        Settled (weighed chamfer) half whole (cell w 0 y) (cell w 0 (y + 1)) words.old words.new }
 {
     for x in (0..chamfer.board.w).rev() {
         relax(chamfer, words, x, y, 4, 8);
@@ -66,8 +66,8 @@ fn backward_row(chamfer: Chamfer, words: &mut [u32], y: usize)
 
 // The backward scan, from the bottom row up.
 fn backward(chamfer: Chamfer, words: &mut [u32])
-    requires { Words chamfer words.old }
-    ensures { Scan chamfer half whole words.old words.new }
+    requires { Words (weighed chamfer) words.old }
+    ensures { Scan (weighed chamfer) half whole words.old words.new }
 {
     for y in (0..chamfer.board.h).rev() {
         backward_row(chamfer, words, y);

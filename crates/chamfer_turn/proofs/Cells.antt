@@ -8,14 +8,13 @@ use lib.ListN.{length, set, length-set}
 use lib.Seq.{get_or-set_same, get_or-set_other}
 use Rattle.rules.specs.Board.{cell}
 use Rattle.rules.proofs.Board.{cell_in, cell_inj}
-use Rattle.chamfer_turn.specs.declared.weighted.Chamfer.{Chamfer}
-use Rattle.chamfer_turn.specs.Neighbours.{far, Words, On, word}
+use Rattle.chamfer_turn.specs.Neighbours.{Weighed, far, Words, On, word}
 
 -- a cell of the board has a word
-pub has_word : {b : Chamfer} {words : List ℕ} {x y : ℕ} → Words b words → On b x y → cell b.board.w x y < length words
+pub has_word : {b : Weighed} {words : List ℕ} {x y : ℕ} → Words b words → On b x y → cell b.board.w x y < length words
 has_word W o = rw W.one_each (cell_in o.column_in o.row_in)
 
-module _ {b : Chamfer} {words : List ℕ} {x y v : ℕ} (W : Words b words) (here : On b x y) where
+module _ {b : Weighed} {words : List ℕ} {x y v : ℕ} (W : Words b words) (here : On b x y) where
   -- after a store, what holds of the new word in its cell and of the old words in the others holds of every word
   pub each_word : (P : ℕ → ℕ → ℕ → Type 0)
       → P x y v

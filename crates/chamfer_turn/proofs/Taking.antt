@@ -10,10 +10,9 @@ use native.Mathlib.Omega.{arith}
 use Rattle.std.specs.Prelude.{Some}
 use Rattle.rules.specs.Table.{weight, Leads}
 use Rattle.rules.specs.declared.Step.{Step}
-use Rattle.chamfer_turn.specs.declared.weighted.Chamfer.{Chamfer}
-use Rattle.chamfer_turn.specs.Neighbours.{word, printed, Moved, Neighbour, offer, Offered, Lesser, Lowest}
+use Rattle.chamfer_turn.specs.Neighbours.{Weighed, word, printed, Moved, Neighbour, offer, Offered, Lesser, Lowest}
 
-module _ {b : Chamfer} {x y k column row through : ℕ} {s : Step} (words : List ℕ) (is : s ≡ printed k)
+module _ {b : Weighed} {x y k column row through : ℕ} {s : Step} (words : List ℕ) (is : s ≡ printed k)
     (a : Moved x s.1 b.board.w (Some column)) (d : Moved y s.0 b.board.h (Some row))
     (e : through ≡ word b words column row + weight b.d1 b.d2 s.2) where
   -- the neighbour is in that column and row, so it offers `through`
@@ -49,7 +48,7 @@ module _ {b : Chamfer} {x y k column row through : ℕ} {s : Step} (words : List
             }));
       }
 
-module _ {b : Chamfer} {words : List ℕ} {x y from : ℕ} where
+module _ {b : Weighed} {words : List ℕ} {x y from : ℕ} where
   -- what is offered by some steps is offered by more
   wider : {from' to to' v : ℕ} → from ≤ from' → to ≤ to' → Offered b words x y from' to v
       → Offered b words x y from to' v

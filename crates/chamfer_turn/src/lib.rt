@@ -7,7 +7,7 @@ pub mod weighted;
 ghost use Rattle.std.specs.Prelude.{◌+◌, ◌≤◌, ◌<◌, ◌≡◌};
 ghost use Rattle.rules.specs.Limits.{side_limit};
 ghost use Rattle.rules.specs.Table.{weight};
-ghost use Rattle.chamfer_turn.specs.Neighbours.{Words, On, word, printed, Moved, Lesser, Lowest, CellTurned};
+ghost use Rattle.chamfer_turn.specs.Neighbours.{weighed, Words, On, word, printed, Moved, Lesser, Lowest, CellTurned};
 
 use rules::{Choice, Step};
 use weighted::Chamfer;
@@ -34,11 +34,20 @@ fn step_at(k: usize) -> Step
     STEPS[k]
 }
 
-// Where a step leads in one direction, unless off the board. One back from 0 wraps round to a number above every side.
+// Where a step leads in one direction, unless off the board. No step and one back have a way of their own: so the compiler
+// takes the first cell of a row, which has none to its left, out of the loop, and boards of one column are no slower. Any
+// other step below 0 wraps round to a number above every side.
+#[inline(always)]
 fn moved(at: usize, by: i32, size: usize) -> Option<usize>
     requires { (at < size) × (size ≤ side_limit) }
     ensures { Moved at by size result }
 {
+    if by == 0 {
+        return Some(at);
+    }
+    if by == -1 {
+        return at.checked_sub(1);
+    }
     let to = at.wrapping_add_signed(by as isize);
     (to < size).then_some(to)
 }
@@ -50,15 +59,15 @@ struct Turn<'a> {
     words: &'a [u32],
     x: usize,
     y: usize,
-    ghost words_in: { Words chamfer words.now },
-    ghost on_board: { On chamfer x y },
+    ghost words_in: { Words (weighed chamfer) words.now },
+    ghost on_board: { On (weighed chamfer) x y },
 }
 
 impl Turn<'_> {
     // What the neighbour (column, row) offers by a step that chooses so: its word and the weight of the step.
     fn offer_of(&self, column: usize, row: usize, choice: Choice) -> u32
-        requires { On self.now.chamfer column row }
-        ensures { let b = self.now.chamfer in
+        requires { On (weighed self.now.chamfer) column row }
+        ensures { let b = weighed self.now.chamfer in
             result ≡ word b self.now.words.now column row + weight b.d1 b.d2 choice }
     {
         let w = self.chamfer.board.w;
@@ -66,9 +75,10 @@ impl Turn<'_> {
     }
 
     // The lesser of `best` and of what the neighbour by step k offers. A neighbour off the board is passed over.
+    #[inline(always)]
     fn lesser(&self, k: usize, best: u32) -> u32
         requires { k < 8 }
-        ensures { let t = self.now in Lesser t.chamfer t.words.now t.x t.y k best result }
+        ensures { let t = self.now in Lesser (weighed t.chamfer) t.words.now t.x t.y k best result }
     {
         let board = self.chamfer.board;
         let step = step_at(k);
@@ -82,10 +92,11 @@ impl Turn<'_> {
     }
 
     // The least of the cell's own word and of what its neighbours by the steps from .. to − 1 offer.
+    #[inline(always)]
     fn lowest(&self, from: usize, to: usize) -> u32
         requires { (from ≤ to) × (to ≤ 8) }
         ensures { let t = self.now in
-            Lowest t.chamfer t.words.now t.x t.y from to (word t.chamfer t.words.now t.x t.y) result }
+            Lowest (weighed t.chamfer) t.words.now t.x t.y from to (word (weighed t.chamfer) t.words.now t.x t.y) result }
     {
         let w = self.chamfer.board.w;
         let mut best = self.words[self.y * w + self.x];
@@ -98,10 +109,10 @@ impl Turn<'_> {
 
 // The turn of one cell: it takes the lowest word.
 pub fn relax(chamfer: Chamfer, words: &mut [u32], x: usize, y: usize, from: usize, to: usize)
-    requires words_in { Words chamfer words.old }
-    requires on_board { On chamfer x y }
+    requires words_in { Words (weighed chamfer) words.old }
+    requires on_board { On (weighed chamfer) x y }
     requires steps { (from ≤ to) × (to ≤ 8) }
-    ensures { CellTurned chamfer x y from to words.old words.new }
+    ensures { CellTurned (weighed chamfer) x y from to words.old words.new }
 {
     let w = chamfer.board.w;
     let turn = Turn {

@@ -2,6 +2,7 @@
 -- Assumes nothing.
 use mathlib.Core.Path.{◌∙◌}
 use native.Mathlib.Omega.{arith}
+use Rattle.chamfer_turn.specs.Neighbours.{weighed}
 use Rattle.chamfer.proofs.Order.{forward_scan, backward_scan}
 use Rattle.chamfer.proofs.Beginning.{begun}
 use Rattle.chamfer.proofs.Bringing.{brought}
@@ -10,7 +11,8 @@ use Rattle.chamfer.proofs.scans.map_words.Goals as goal
 
 pub returns : goal.returns
 returns c =
-    let first = begun c.begin.ensures (c.begin.auto.words ∙ c.requires.words_are) c.requires.bored in
-    let second = brought forward_scan (omega arith) c.forward.ensures first in
+    let weights = c.args.chamfer.weights in
+    let first = begun {b = weighed c.args.chamfer} c.begin.ensures (c.begin.auto.words ∙ c.requires.words_are) weights c.requires.bored in
+    let second = brought forward_scan (omega arith) weights c.forward.ensures first in
     let last = c.backward.ensures in
-    mapped (brought backward_scan (omega arith) last second) last.words.one_each c.requires.words_are
+    mapped (brought backward_scan (omega arith) weights last second) last.words.one_each c.requires.words_are

@@ -8,8 +8,7 @@ ghost use Rattle.std.specs.Prelude.{ℕ, ◌+◌, ◌≤◌, ◌<◌, ◌≡◌,
 ghost use Rattle.gauge.specs.Line.{Wins, height_at};
 ghost use Rattle.envelope.specs.Stretches.{starts, holders, Given, Stretches, Kept, Against, Begins, Turn, Spreads, Spread};
 
-use gauge::Gauge;
-use rules::kind::LineKind;
+use gauge::{Gauge, by_kind};
 
 // What a turn leaves: how many stretches were kept when its column came, and how many there are now.
 #[derive(Clone, Copy)]
@@ -132,26 +131,11 @@ fn line_winners(g: &Gauge, values: &[u64], work: &mut [u32], winners: &mut [u32]
     spread(work, m, winners);
 }
 
-// The engine: at each place of the line the least column whose curve is lowest there. In each arm the compiler knows the
-// kind, which saves a map up to a quarter of its time.
+// The engine: at each place of the line the least column whose curve is lowest there.
 pub fn winners_of(g: &Gauge, values: &[u64], work: &mut [u32], winners: &mut [u32])
     requires { Given values.now work.old × (length winners.old ≡ length values.now) }
     ensures { (x : ℕ) → x < length values.now
         → Wins (height_at g.now.kind values.now) (length values.now) x (get_or winners.new x 0) }
 {
-    let squares = g.squares;
-    match g.kind {
-        LineKind::Euclid => {
-            let kind = LineKind::Euclid;
-            line_winners(&Gauge { kind, squares }, values, work, winners);
-        }
-        LineKind::Manhattan => {
-            let kind = LineKind::Manhattan;
-            line_winners(&Gauge { kind, squares }, values, work, winners);
-        }
-        LineKind::Chessboard => {
-            let kind = LineKind::Chessboard;
-            line_winners(&Gauge { kind, squares }, values, work, winners);
-        }
-    }
+    by_kind!(g, known => line_winners(known, values, work, winners));
 }

@@ -4,7 +4,7 @@
 use mathlib.Core.Path.{◌≡◌, refl, ap, ◌∙◌}
 use mathlib.Core.Logic.{◌↔◌, ◌⊎◌, inl, inr}
 use mathlib.Core.List.{List}
-use Prim.Native.Nat.{ℕ, ◌+◌, ◌-◌, ◌*◌, ◌/◌, ◌≤◌, ◌<◌, min, max}
+use Prim.Native.Nat.{ℕ, zero, suc, ◌+◌, ◌-◌, ◌*◌, ◌/◌, ◌≤◌, ◌<◌, min, max}
 use native.Mathlib.Nat.{le-div_iff_mul-le, mul-add, lt_of_not-le}
 use native.Mathlib.Omega.{arith}
 use Rattle.rules.specs.Board.{away}
@@ -112,6 +112,12 @@ apart_below x i = omega arith
 -- a kind that has parts, and is neither 0 nor 1, is 2
 pub third_kind : {kind : ℕ} → HasParts kind → (kind ≡ 0 → ⊥) → (kind ≡ 1 → ⊥) → kind ≡ 2
 third_kind p a b = omega (arith, p.kind_in, p.no_chamfer)
+
+-- in the other kinds but 0 a difference of rows is lifted to itself
+pub flat_lift : (kind dy : ℕ) → (kind ≡ 0 → ⊥) → dy ≡ (measure kind).lift dy
+flat_lift zero dy other = absurd (other refl)
+flat_lift (suc zero) dy other = refl
+flat_lift (suc (suc k)) dy other = refl
 
 -- the place where i stops holding, from the last place that it holds
 pub place_of : (kind : LineKind) (values : List ℕ) (i u p r : ℕ) → let n = length values in

@@ -2,11 +2,12 @@
 #![tactic(auto)]
 
 ghost use Rattle.std.specs.Prelude.{◌≡◌};
+ghost use Rattle.squares.specs.List.{Squares};
 
 use envelope::winners_of;
 use gauge::Gauge;
 use lines::Generator;
-use plain::wrong_places;
+use plain::{wrong_of_kind, wrong_places};
 use rules::MARK;
 use rules::kind::LineKind;
 use squares::list_of_squares;
@@ -24,7 +25,8 @@ const LINES: u32 = 10_000;
 const LONGEST: usize = rules::SIDE_LIMIT as usize;
 
 // One random line. The winners start as marks, so that a place that the engine leaves out counts as wrong.
-fn one_line(gauge: &Gauge, generator: &mut Generator) -> Tally
+fn one_line(kind: LineKind, squares: &[u32], generator: &mut Generator) -> Tally
+    requires { Squares squares.now }
     ensures { result.lines ≡ 1 }
 {
     let mut values = [0; LONGEST];
@@ -34,11 +36,16 @@ fn one_line(gauge: &Gauge, generator: &mut Generator) -> Tally
     let values = &mut values[..n];
     let winners = &mut winners[..n];
     generator.fill(values);
-    winners_of(gauge, values, &mut work[..n + n], winners);
+    winners_of(
+        &Gauge { kind, squares },
+        values,
+        &mut work[..n + n],
+        winners,
+    );
     Tally {
         lines: 1,
         places: n as u64,
-        wrong: wrong_places(gauge.kind, values, winners),
+        wrong: wrong_of_kind(kind, values, winners),
     }
 }
 
@@ -47,13 +54,9 @@ fn try_kind(kind: LineKind, lines: u32, generator: &mut Generator) -> Tally
     ensures { result.lines ≡ lines }
 {
     let squares = list_of_squares();
-    let gauge = Gauge {
-        kind,
-        squares: &squares,
-    };
     let mut tally = Tally::default();
     for _ in 0..lines {
-        tally += one_line(&gauge, generator);
+        tally += one_line(kind, &squares, generator);
     }
     tally
 }
@@ -61,7 +64,7 @@ fn try_kind(kind: LineKind, lines: u32, generator: &mut Generator) -> Tally
 // On a line of equal values every column wins at its own place. Two of these winners are spoilt, so that a count that sees
 // nothing shows.
 fn show_spoilt(rt: &impl Print) -> io::Result<()> {
-    let wrong = wrong_places(LineKind::Euclid, &[0, 0, 0, 0], &[0, 2, 2, 0]);
+    let wrong = wrong_places(0, &[0, 0, 0, 0], &[0, 2, 2, 0]);
     println!(rt; "a line with 2 winners spoilt: {wrong} wrong")
 }
 

@@ -34,7 +34,7 @@ fn lowest(kind: LineKind, values: &[u64], x: usize) -> Option<usize>
 }
 
 // At how many places of the line the winner is not the lowest column.
-pub fn wrong_places(kind: LineKind, values: &[u64], winners: &[u32]) -> u64
+pub fn wrong_of_kind(kind: LineKind, values: &[u64], winners: &[u32]) -> u64
     requires line { Line values.now }
     requires places { length winners.now ≡ length values.now }
     ensures { result ≤ length values.now }
@@ -44,4 +44,14 @@ pub fn wrong_places(kind: LineKind, values: &[u64], winners: &[u32]) -> u64
         .enumerate()
         .filter(|&(x, &winner)| lowest(kind, values, x) != Some(winner as usize))
         .count() as u64
+}
+
+// The same, where the kind is asked by its number; every number above 1 is taken for the chessboard.
+pub fn wrong_places(kind: u32, values: &[u64], winners: &[u32]) -> u64
+    requires line { Line values.now }
+    requires places { length winners.now ≡ length values.now }
+    ensures { result ≤ length values.now }
+{
+    let kind = LineKind::try_from(kind).unwrap_or(LineKind::Chessboard);
+    wrong_of_kind(kind, values, winners)
 }

@@ -6,6 +6,7 @@ use maps::picture_map;
 use rules::MARK;
 use rules::refusal::Refusal;
 use std::io;
+use std::io::AsBytes;
 
 // The cells of the largest board here, 512 by 512. A board of 2,048 by 2,048 has no room on a stack; `examples/board.c` and
 // the second program run that.
@@ -81,18 +82,19 @@ impl Question {
 // "1 by 1, bored, cell 1: distance 1, site 0"
 fn print_cell(
     rt: &impl Print,
-    name: &str,
+    name: impl AsBytes + Drop,
     cell: usize,
     distance: u32,
     site: u32,
 ) -> io::Result<()> {
-    println!(rt; "{name}, cell {cell}: distance {distance}, site {site}")
+    rt.write_all(name.as_byte_slice())?;
+    println!(rt; ", cell {cell}: distance {distance}, site {site}")
 }
 
 // A board, and one cell of its map.
 pub fn show_cell(
     rt: &impl Print,
-    name: &str,
+    name: impl AsBytes + Drop,
     question: Question,
     picture: &[u8],
     cell: usize,
@@ -106,11 +108,11 @@ pub fn show_cell(
 // A board, and whether its map is made.
 pub fn show_answer(
     rt: &impl Print,
-    name: &str,
+    name: impl AsBytes + Drop,
     question: Question,
     picture: &[u8],
 ) -> io::Result<()> {
-    print!(rt; "{name}")?;
+    rt.write_all(name.as_byte_slice())?;
     print_answer(rt, question.look(picture, 0).answer)
 }
 

@@ -3,6 +3,7 @@ use crate::text::print_answer;
 use knob::{clear_map, open};
 use rules::Setting;
 use std::io;
+use std::io::AsBytes;
 
 // A good value, to stand beside the one that is tried.
 const GOOD: f32 = 1.0;
@@ -16,14 +17,18 @@ fn print_opened(rt: &impl Print, setting: Setting) -> io::Result<()> {
 }
 
 // A value by itself: as the pitch, then as the radius.
-pub fn show_value(rt: &impl Print, name: &str, value: f32) -> io::Result<()> {
-    print!(rt; "pitch {name}: ")?;
+pub fn show_value(rt: &impl Print, name: impl AsBytes + Drop, value: f32) -> io::Result<()> {
+    print!(rt; "pitch ")?;
+    rt.write_all(name.as_byte_slice())?;
+    print!(rt; ": ")?;
     let as_pitch = Setting {
         pitch: value,
         radius: GOOD,
     };
     print_opened(rt, as_pitch)?;
-    print!(rt; "\nradius {name}: ")?;
+    print!(rt; "\nradius ")?;
+    rt.write_all(name.as_byte_slice())?;
+    print!(rt; ": ")?;
     let as_radius = Setting {
         pitch: GOOD,
         radius: value,

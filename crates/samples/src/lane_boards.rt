@@ -4,12 +4,13 @@ use crate::text::print_rows;
 use lane::widest;
 use rules::MARK;
 use std::io;
+use std::io::AsBytes;
 
 // A board of at most nine cells, and the lane between two of them: "3 by 3: width 1, cells 5, path 0 1 2 5 8" or "3 by 3:
 // refusal 7, path 0 0 0".
 pub fn show_lane(
     rt: &impl Print,
-    name: &str,
+    name: impl AsBytes + Drop,
     w: u32,
     h: u32,
     picture: &[u8],
@@ -31,9 +32,10 @@ pub fn show_lane(
         &mut scratch,
         &mut path,
     );
+    rt.write_all(name.as_byte_slice())?;
     match answer {
-        Ok(course) => print!(rt; "{name}: width {}, cells {}", course.width, course.cells),
-        Err(refusal) => print!(rt; "{name}: {refusal}"),
+        Ok(course) => print!(rt; ": width {}, cells {}", course.width, course.cells),
+        Err(refusal) => print!(rt; ": {refusal}"),
     }?;
     print!(rt; ", path")?;
     print_rows(rt, 9, &path)?;

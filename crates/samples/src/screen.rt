@@ -1,6 +1,7 @@
 // Millimetres on the screen, as a text and as a number.
 use millimetres::{centre_figure, centre_text};
 use std::io;
+use std::io::AsBytes;
 
 // "1.41406250##########, 10 bytes" or "refusal 8". The buffer is printed whole: # stands where nothing was written.
 fn print_text(rt: &impl Print, d: u32, pitch: f32, text: &mut [u8]) -> io::Result<()> {
@@ -30,12 +31,13 @@ fn print_figure(rt: &impl Print, d: u32, pitch: f32, expected: f64) -> io::Resul
 // The text and the number of a squared distance, in a buffer that is just long enough.
 pub fn show_millimetres(
     rt: &impl Print,
-    asked: &str,
+    asked: impl AsBytes + Drop,
     d: u32,
     pitch: f32,
     expected: f64,
 ) -> io::Result<()> {
-    print!(rt; "{asked}: ")?;
+    rt.write_all(asked.as_byte_slice())?;
+    print!(rt; ": ")?;
     let mut text = [35; 20];
     print_text(rt, d, pitch, &mut text)?;
     print!(rt; "; ")?;
